@@ -1,0 +1,135 @@
+-- Maps as the types hold them: the invariant in hand, and what keeps it.
+use mathlib.Core.Path.{_≡_, refl, sym, ap, subst, _∙_}
+use mathlib.Core.List.{List, [], _∷_}
+use mathlib.Core.HLevel.{Π-prop}
+use mathlib.Core.Logic.{_⊎_, inl, inr, ∥∥₁-elim}
+use mathlib.Core.Bool.{Bool, true, false, cond, _||_, _&&_, not}
+use Prim.Native.Nat.{ℕ, zero, suc, _+_, _-_, _*_, _/_, _^_, _≤_, _<_}
+use native.Mathlib.Nat.{div-eq-of-lt-le, mul-le-mul-left}
+use native.Mathlib.Bridge.{le-prop}
+use native.Mathlib.Omega.{arith}
+use lib.Pow.{pow-pos, pow-add}
+use lib.Dec.{T, T-prop, eqb, ltb}
+use Rattle.std.proofs.shelf.Tests.{eqb-true, cond-true}
+use Rattle.index.specs.Numbers.{Numbers, Within, union, bits}
+use Rattle.index.specs.Maps.{IsMap}
+use Rattle.index.specs.Values.{depth-of}
+use Rattle.index.proofs.Walks.{T-true, true-T, none-above, depth-found, deep}
+use Rattle.std.specs.declared.option.Option.the-variants.{Some, None}
+use Rattle.index.specs.Ranges.{depth, reversed, start}
+use Rattle.index.proofs.Bits.{reversed-lt}
+use Rattle.index.proofs.Digits.{start-short}
+
+map-prop : (m : Numbers) → IsProp (IsMap m)
+map-prop m a b = λ i. record {
+  root = T-prop _ (a .root) (b .root) i;
+  bounded = Π-prop (λ q. Π-prop (λ _. le-prop)) (a .bounded) (b .bounded) i;
+  parent = Π-prop (λ p. Π-prop (λ r. Π-prop (λ _. Π-prop (λ _. T-prop _)))) (a .parent) (b .parent) i;
+  earlier = Π-prop (λ p. Π-prop (λ r. Π-prop (λ s. Π-prop (λ _. Π-prop (λ _. Π-prop (λ _. T-prop _)))))) (a .earlier) (b .earlier) i;
+}
+
+-- out of a map's invariant
+pub map-of : {m : Numbers} → ∥ IsMap m ∥₁ → IsMap m
+map-of {m} t = ∥∥₁-elim t (map-prop m) (λ a. a)
+
+-- a map is a set: the same numbers make the same map
+pub map-same : (m n : Numbers) → ((q : ℕ) → n q ≡ m q) → IsMap m → IsMap n
+map-same m n e M = record {
+  root = rw (e 0) (M .root);
+  bounded = λ q t. M .bounded q (rw (e q) at t);
+  parent = λ p r l t. rw (e p) (M .parent p r l (rw (e (p + 2 ^ r)) at t));
+  earlier = λ p r s l k t. rw (e (p + 2 ^ s)) (M .earlier p r s l k (rw (e (p + 2 ^ r)) at t));
+}
+
+-- ---- unions
+
+T-or : (a b : Bool) → T (a || b) → T a ⊎ T b
+T-or true b t = inl tt
+T-or false b t = inr t
+
+T-left : (a b : Bool) → T a → T (a || b)
+T-left true b t = tt
+T-left false b t = absurd t
+
+T-right : (a b : Bool) → T b → T (a || b)
+T-right true b t = tt
+T-right false b t = t
+
+within-left : (m n : Numbers) → Within m (union m n)
+within-left m n q t = T-left (m q) (n q) t
+
+within-right : (m n : Numbers) → Within n (union m n)
+within-right m n q t = T-right (m q) (n q) t
+
+pub union-map : (m n : Numbers) → IsMap m → IsMap n → IsMap (union m n)
+union-map m n M N = record {
+  root = within-left m n 0 (M .root);
+  bounded = λ q t. elim (T-or (m q) (n q) t) [ inl h ↦ M .bounded q h | inr h ↦ N .bounded q h ];
+  parent = λ p r l t. elim (T-or (m (p + 2 ^ r)) (n (p + 2 ^ r)) t) [
+    | inl h ↦ within-left m n p (M .parent p r l h)
+    | inr h ↦ within-right m n p (N .parent p r l h)
+  ];
+  earlier = λ p r s l k t. elim (T-or (m (p + 2 ^ r)) (n (p + 2 ^ r)) t) [
+    | inl h ↦ within-left m n (p + 2 ^ s) (M .earlier p r s l k h)
+    | inr h ↦ within-right m n (p + 2 ^ s) (N .earlier p r s l k h)
+  ];
+}
+
+-- ---- the map with 0 alone
+
+pub root-map : (m : Numbers) → ((q : ℕ) → m q ≡ eqb q 0) → IsMap m
+root-map m e = map-same (λ q. eqb q 0) m e record {
+  root = tt;
+  bounded = λ q t. omega (arith, eqb-true q 0 (T-true t));
+  parent = λ p r l t. absurd (omega (arith, eqb-true (p + 2 ^ r) 0 (T-true t), pow-pos r));
+  earlier = λ p r s l k t. absurd (omega (arith, eqb-true (p + 2 ^ r) 0 (T-true t), pow-pos r));
+}
+
+-- ---- depths
+
+-- the first d below 9 that passes, or 9, is the depth of p
+pub depth-some : (m : Numbers) → IsMap m → (p d : ℕ) → m p ≡ true → d ≤ 9 → ((k : ℕ) → k < d → (ltb p (2 ^ k) && not (m (p + 2 ^ k))) ≡ false)
+    → (d < 9 → (ltb p (2 ^ d) && not (m (p + 2 ^ d))) ≡ true) → Some d ≡ depth-of m p
+depth-some m M p d h few least here =
+    ap Some (sym (depth-found m p d (M .bounded p (true-T h)) (none-above m M (p + 512) (omega arith)) few least here)) ∙ sym (cond-true (m p) _ _ h)
+
+-- what an answered depth says
+pub record Deepened (m : Numbers) (p d : ℕ) : Type 0 where
+  pub inside : m p ≡ true
+  pub is : d ≡ depth m p
+  pub few : d ≤ 9
+  pub low : p < 2 ^ d
+
+pub depth-parts : (m : Numbers) → IsMap m → (p d : ℕ) → Some d ≡ depth-of m p → Deepened m p d
+depth-parts m M p d e = go (m p) refl e
+  where
+    go : (b : Bool) → m p ≡ b → Some d ≡ cond b (Some (depth m p)) None → Deepened m p d
+    go true h f =
+        let z : d ≡ depth m p = cc in
+        let D = deep m M p h in
+        record { inside = h; is = z; few = rw z (D .few); low = rw z (D .low) }
+    go false h f = let z : _≡_ {A = ℕ} 0 1 = cc in absurd (omega arith)
+
+-- ---- ranges
+
+-- how long a range is, but for one
+pub rest-of-range : (d : ℕ) → d ≤ 32 → 4294967295 / 2 ^ d ≡ 2 ^ (32 - d) - 1
+rest-of-range d h =
+    let l = limits (2 ^ (32 - d)) (2 ^ d) (2 ^ (32 - d) - 1) (omega (arith, pow-pos (32 - d))) (pow-pos d) whole in
+    div-eq-of-lt-le (2 ^ d) (l .0) (l .1)
+  where
+    whole : 2 ^ (32 - d) * 2 ^ d ≡ 4294967296
+    whole = let e : 32 - d + d ≡ 32 = omega arith in sym (pow-add 2 (32 - d) d) ∙ ap (λ (n : ℕ). 2 ^ n) e
+
+    limits : (a b k : ℕ) → a ≡ k + 1 → 0 < b → a * b ≡ 4294967296 → (k * b ≤ 4294967295) × (4294967295 < (k + 1) * b)
+    limits a b k e h f = let g : (k + 1) * b ≡ 4294967296 = rw (← e) f in (omega arith, omega arith)
+
+-- a range ends below 2 ^ 32
+pub range-fits : (p d : ℕ) → p < 2 ^ d → d ≤ 32 → start p + 2 ^ (32 - d) ≤ 4294967296
+range-fits p d l h = ends (start p) (reversed d p) (2 ^ d) (2 ^ (32 - d)) (start-short p d l h) (reversed-lt d p) whole
+  where
+    whole : 2 ^ d * 2 ^ (32 - d) ≡ 4294967296
+    whole = let e : d + (32 - d) ≡ 32 = omega arith in sym (pow-add 2 d (32 - d)) ∙ ap (λ (n : ℕ). 2 ^ n) e
+
+    ends : (s r a b : ℕ) → s ≡ r * b → r < a → a * b ≡ 4294967296 → s + b ≤ 4294967296
+    ends s r a b e f g = omega (arith, mul-le-mul-left b f)
