@@ -226,3 +226,16 @@ module _ (s : Numbers) (bounded : (q : ℕ) → T (s q) → q < 512) where
 -- the numbers of `filled s`, however they are held
 pub fills-as : (s f : Numbers) → ((q : ℕ) → T (s q) → q < 512) → ((q : ℕ) → f q ≡ filled s q) → Fills s f
 fills-as s f bounded e = subst (Fills s) (sym (fun-ext e)) (filled-fills s bounded)
+
+-- the empty set gives 0 alone
+pub filled-none : (s : Numbers) → ((q : ℕ) → s q ≡ false) → (q : ℕ) → filled s q ≡ eqb q 0
+unfolding filled
+filled-none s h q = ap (λ (b : Bool). eqb q 0 || b) (none 512) ∙ right (eqb q 0)
+  where
+    none : (n : ℕ) → some-below (source s q) n ≡ false
+    none zero = refl
+    none (suc n) = ap₂ (λ (a b : Bool). (a && wants n q) || b) (h n) (none n)
+
+    right : (b : Bool) → (b || false) ≡ b
+    right true = refl
+    right false = refl

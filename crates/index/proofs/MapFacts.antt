@@ -1,22 +1,19 @@
 -- Maps as the types hold them: the invariant in hand, and what keeps it.
-use mathlib.Core.Path.{_≡_, refl, sym, ap, subst, _∙_}
-use mathlib.Core.List.{List, [], _∷_}
+use mathlib.Core.Path.{_≡_, sym, ap, _∙_}
 use mathlib.Core.HLevel.{Π-prop}
 use mathlib.Core.Logic.{_⊎_, inl, inr, ∥∥₁-elim}
-use mathlib.Core.Bool.{Bool, true, false, cond, _||_, _&&_, not}
-use Prim.Native.Nat.{ℕ, zero, suc, _+_, _-_, _*_, _/_, _^_, _≤_, _<_}
+use mathlib.Core.Bool.{Bool, true, false, _||_}
+use Prim.Native.Nat.{ℕ, _+_, _-_, _*_, _/_, _^_, _≤_, _<_}
 use native.Mathlib.Nat.{div-eq-of-lt-le, mul-le-mul-left}
 use native.Mathlib.Bridge.{le-prop}
 use native.Mathlib.Omega.{arith}
 use lib.Pow.{pow-pos, pow-add}
-use lib.Dec.{T, T-prop, eqb, ltb}
-use Rattle.std.proofs.shelf.Tests.{eqb-true, cond-true}
-use Rattle.index.specs.Numbers.{Numbers, Within, union, bits}
+use lib.Dec.{T, T-prop, eqb}
+use Rattle.std.proofs.shelf.Tests.{eqb-true}
+use Rattle.index.specs.Numbers.{Numbers, Within, union}
 use Rattle.index.specs.Maps.{IsMap}
-use Rattle.index.specs.Values.{depth-of}
-use Rattle.index.proofs.Walks.{T-true, true-T, none-above, depth-found, deep}
-use Rattle.std.specs.declared.option.Option.the-variants.{Some, None}
-use Rattle.index.specs.Ranges.{depth, reversed, start}
+use Rattle.index.proofs.Walks.{T-true}
+use Rattle.index.specs.Ranges.{reversed, start}
 use Rattle.index.proofs.Bits.{reversed-lt}
 use Rattle.index.proofs.Digits.{start-short}
 
@@ -84,31 +81,6 @@ root-map m e = map-same (λ q. eqb q 0) m e record {
   parent = λ p r l t. absurd (omega (arith, eqb-true (p + 2 ^ r) 0 (T-true t), pow-pos r));
   earlier = λ p r s l k t. absurd (omega (arith, eqb-true (p + 2 ^ r) 0 (T-true t), pow-pos r));
 }
-
--- ---- depths
-
--- the first d below 9 that passes, or 9, is the depth of p
-pub depth-some : (m : Numbers) → IsMap m → (p d : ℕ) → m p ≡ true → d ≤ 9 → ((k : ℕ) → k < d → (ltb p (2 ^ k) && not (m (p + 2 ^ k))) ≡ false)
-    → (d < 9 → (ltb p (2 ^ d) && not (m (p + 2 ^ d))) ≡ true) → Some d ≡ depth-of m p
-depth-some m M p d h few least here =
-    ap Some (sym (depth-found m p d (M .bounded p (true-T h)) (none-above m M (p + 512) (omega arith)) few least here)) ∙ sym (cond-true (m p) _ _ h)
-
--- what an answered depth says
-pub record Deepened (m : Numbers) (p d : ℕ) : Type 0 where
-  pub inside : m p ≡ true
-  pub is : d ≡ depth m p
-  pub few : d ≤ 9
-  pub low : p < 2 ^ d
-
-pub depth-parts : (m : Numbers) → IsMap m → (p d : ℕ) → Some d ≡ depth-of m p → Deepened m p d
-depth-parts m M p d e = go (m p) refl e
-  where
-    go : (b : Bool) → m p ≡ b → Some d ≡ cond b (Some (depth m p)) None → Deepened m p d
-    go true h f =
-        let z : d ≡ depth m p = cc in
-        let D = deep m M p h in
-        record { inside = h; is = z; few = rw z (D .few); low = rw z (D .low) }
-    go false h f = let z : _≡_ {A = ℕ} 0 1 = cc in absurd (omega arith)
 
 -- ---- ranges
 

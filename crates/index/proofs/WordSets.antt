@@ -74,17 +74,18 @@ bits-inserted ws q h k = elim (cases-eq (k / 64) (q / 64)) [
     right true y e = refl
     right false y e = sym e
 
--- the words of the set with 0 alone
-pub root-only : (q : ℕ) → bits (1 ∷ 0 ∷ 0 ∷ 0 ∷ 0 ∷ 0 ∷ 0 ∷ 0 ∷ []) q ≡ eqb q 0
-root-only q = bits-inserted (replicate 8 0) 0 (lit< tt) q ∙ ap (λ (b : Bool). b || eqb q 0) (none 8 q)
+-- words of zeros hold no number
+pub bits-none : (n k : ℕ) → bits (replicate {A = ℕ} n 0) k ≡ false
+bits-none n k = ap (λ (w : ℕ). on w (k % 64)) (zeros n (k / 64)) ∙ ap (λ (x : ℕ). eqb x 1) (bit-zero (k % 64))
   where
     zeros : (n i : ℕ) → getD (replicate {A = ℕ} n 0) i 0 ≡ 0
     zeros zero i = refl
     zeros (suc n) zero = refl
     zeros (suc n) (suc i) = zeros n i
 
-    none : (n k : ℕ) → bits (replicate {A = ℕ} n 0) k ≡ false
-    none n k = ap (λ (w : ℕ). on w (k % 64)) (zeros n (k / 64)) ∙ ap (λ (x : ℕ). eqb x 1) (bit-zero (k % 64))
+-- the words of the set with 0 alone
+pub root-only : (q : ℕ) → bits (1 ∷ 0 ∷ 0 ∷ 0 ∷ 0 ∷ 0 ∷ 0 ∷ 0 ∷ []) q ≡ eqb q 0
+root-only q = bits-inserted (replicate 8 0) 0 (lit< tt) q ∙ ap (λ (b : Bool). b || eqb q 0) (bits-none 8 q)
 
 -- word by word, the numbers of either set
 pub bits-union : (xs ys zs : List ℕ) → ((i : ℕ) → getD zs i 0 ≡ bitOr (getD xs i 0) (getD ys i 0)) → (k : ℕ) → bits zs k ≡ (bits xs k || bits ys k)

@@ -5,28 +5,28 @@ ghost use lib.Dec.{eqb, ltb};
 ghost use Rattle.index.specs.Numbers.{bits};
 use crate::words;
 
-// Any set of partition numbers.
+/// Any set of partition numbers.
 #[derive(Clone, Copy)]
 pub struct PartitionSet {
     pub(crate) words: [u64; 8],
 }
 
 impl PartitionSet {
-    // The set with no partition.
+    /// The set with no partition.
     pub fn new() -> PartitionSet
         ensures { λ r. ⌜ ((q : ℕ) → bits (r .words) q ≡ false) ⌝ }
     {
         PartitionSet { words: [0; 8] }
     }
 
-    // Whether the set has partition p.
+    /// Whether the set has partition p.
     pub fn has(&self, p: u16) -> bool
         ensures { λ r. ⌜ r ≡ bits (now (self .entry) .words) p ⌝ }
     {
         words::test(&self.words, p)
     }
 
-    // Adds partition p, and answers whether there is one: a number above 511 is none, and adds nothing.
+    /// Adds partition p, and answers whether there is one: a number above 511 is none, and adds nothing.
     pub fn add(&mut self, p: u16) -> bool
         ensures answer { λ r. ⌜ r ≡ ltb p 512 ⌝ }
         ensures after { λ _. ⌜ ((q : ℕ) → bits (now (self .exit) .words) q ≡ (bits (now (self .entry) .words) q || (ltb p 512 && eqb q p))) ⌝ }

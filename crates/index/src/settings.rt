@@ -1,7 +1,7 @@
 ghost use Prim.Native.Nat.{_≤_};
 
-// The set-up of a registry: how many servers there are at first, how many partitions each has room for, and how many entries a partition
-// must pass before it is split.
+/// The set-up of a registry: how many servers there are at first, how many partitions each has room for, and how many entries a partition
+/// must pass before it is split.
 #[derive(Clone, Copy)]
 pub struct Settings {
     pub(crate) servers: u8,
@@ -15,7 +15,7 @@ pub struct Settings {
     ghost high: { threshold ≤ 8000 },
 }
 
-// Why settings are refused.
+/// Why settings are refused.
 #[derive(Clone, Copy, PartialEq, Eq, Debug)]
 pub enum SettingsRefusal {
     OutsideLimits,

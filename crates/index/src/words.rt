@@ -1,20 +1,22 @@
-// Sets of numbers below 512, a bit for each, in eight words.
+// Sets of partition numbers, a bit for each number below 512, in eight words.
 ghost use mathlib.Core.Path.{_≡_};
 ghost use mathlib.Core.Bool.{_||_};
-ghost use Prim.Native.Nat.{ℕ, _^_, _<_, _≤_};
-ghost use lib.Dec.{eqb};
-ghost use Rattle.index.specs.Numbers.{bits, size};
-ghost use Rattle.index.specs.Maps.{wants};
+ghost use Prim.Native.Nat.{ℕ, _-_, _*_, _^_, _<_, _≤_};
+ghost use lib.Dec.{eqb, T};
+ghost use lib.ListN.{replicate};
+ghost use Rattle.index.specs.Numbers.{bit, bits, size};
+ghost use Rattle.index.specs.Maps.{IsMap, Fills, wants, filled};
+ghost use Rattle.index.specs.Ranges.{depth, part-for, Alone};
 
 // A 1 in binary place e of a partition number.
-pub(crate) fn power(e: u32) -> u16
+fn power(e: u32) -> u16
     requires { ⌜ e < 9 ⌝ }
     ensures { λ r. ⌜ r ≡ 2 ^ e ⌝ ∗ ⌜ r ≤ 256 ⌝ }
 {
     1 << e
 }
 
-// Whether q is in the set; no number above 511 is.
+// Whether the set has q; it has no number above 511.
 pub(crate) fn test(words: &[u64; 8], q: u16) -> bool
     ensures { λ r. ⌜ r ≡ bits (now (words .entry)) q ⌝ }
 {
@@ -51,7 +53,7 @@ pub(crate) fn count(words: &[u64; 8]) -> u16
 }
 
 // Adds all that a map with r has, but for 0: for each place of a digit of r, the digits below it under a 1 in that place.
-pub(crate) fn insert_wanted(words: &mut [u64; 8], r: u16)
+fn insert_wanted(words: &mut [u64; 8], r: u16)
     requires { ⌜ r < 512 ⌝ }
     ensures { λ _. ⌜ ((k : ℕ) → bits (now (words .exit)) k ≡ (bits (now (words .entry)) k || wants r k)) ⌝ }
 {
@@ -61,4 +63,60 @@ pub(crate) fn insert_wanted(words: &mut [u64; 8], r: u16)
             insert(words, r % place + place);
         }
     }
+}
+
+// The least map that has all numbers of the set. The empty set gives the map with 0 alone.
+pub(crate) fn fill(set: &[u64; 8]) -> [u64; 8]
+    ensures value { λ r. ⌜ ((q : ℕ) → bits r q ≡ filled (bits (now (set .entry))) q) ⌝ }
+    ensures least { λ r. ⌜ Fills (bits (now (set .entry))) (bits r) ⌝ }
+    ensures empty { λ r. ⌜ (now (set .entry) ≡ replicate 8 0 → (q : ℕ) → bits r q ≡ eqb q 0) ⌝ }
+{
+    let mut words = [1, 0, 0, 0, 0, 0, 0, 0];
+    for r in 0..512 {
+        if test(set, r) {
+            insert_wanted(&mut words, r);
+        }
+    }
+    words
+}
+
+// The depth of partition p of a map.
+pub(crate) fn depth(words: &[u64; 8], p: u16) -> u32
+    requires { ⌜ IsMap (bits (now words)) ⌝ ∗ ⌜ T (bits (now words) p) ⌝ }
+    ensures value { λ r. ⌜ r ≡ depth (bits (now (words .entry))) p ⌝ }
+    ensures few { λ r. ⌜ r ≤ 9 ⌝ }
+    ensures low { λ r. ⌜ p < 2 ^ r ⌝ }
+{
+    for d in 0..9 {
+        let place = power(d);
+        if p < place && !test(words, p + place) {
+            return d;
+        }
+    }
+    9
+}
+
+// Digit d of the placement, the most significant being digit 0, in binary place d of a partition number.
+fn digit_at(placement: u32, d: u32) -> u16
+    requires { ⌜ d < 9 ⌝ }
+    ensures { λ r. ⌜ r ≡ bit placement (31 - d) * 2 ^ d ⌝ }
+{
+    (((placement >> (31 - d)) & 1) << d) as u16
+}
+
+// The map's partition for a placement: the walk follows the placement's digits, the most significant first, for as long as the partition
+// that it is at was split.
+pub(crate) fn walk(words: &[u64; 8], placement: u32) -> u16
+    requires { ⌜ IsMap (bits (now words)) ⌝ }
+    ensures value { λ r. ⌜ r ≡ part-for (bits (now (words .entry))) placement ⌝ }
+    ensures alone { λ r. ⌜ Alone (bits (now (words .entry))) placement r ⌝ }
+{
+    let mut p = 0;
+    for d in 0..9 {
+        if !test(words, p + power(d)) {
+            return p;
+        }
+        p += digit_at(placement, d);
+    }
+    p
 }

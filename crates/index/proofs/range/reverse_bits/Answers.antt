@@ -2,7 +2,7 @@ use mathlib.Core.Path.{ap, _∙_}
 use Prim.Native.Nat.{ℕ}
 use Rattle.index.specs.Ranges.{start}
 use Rattle.index.proofs.Reverse.{swapped, turned}
-use Rattle.index.proofs.maps.reverse_bits.Needs as need
+use Rattle.index.proofs.range.reverse_bits.Needs as need
 
 pub returns : need.returns
 unfolding start

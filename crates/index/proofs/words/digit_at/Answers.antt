@@ -1,5 +1,5 @@
 -- the digit is 0 or 1, and stays within a partition number's bits
-use mathlib.Core.Path.{_≡_, sym, ap, subst, _∙_}
+use mathlib.Core.Path.{_≡_, ap, _∙_}
 use Prim.Native.Nat.{ℕ, zero, suc, _-_, _*_, _/_, _%_, _^_, _≤_, _<_}
 use native.Mathlib.Nat.{mod-eq-of-lt}
 use native.Mathlib.Omega.{arith}
@@ -7,7 +7,7 @@ use lib.Bits.{bitAnd, and-mask}
 use lib.Pow.{pow-mono}
 use Rattle.index.specs.Numbers.{bit}
 use Rattle.index.proofs.Bits.{bit-lt}
-use Rattle.index.proofs.maps.digit_at.Needs as need
+use Rattle.index.proofs.words.digit_at.Needs as need
 
 small : (b n : ℕ) → b < 2 → n ≤ 256 → b * n ≤ 256
 small zero n h l = omega arith

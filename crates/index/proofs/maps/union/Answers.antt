@@ -7,13 +7,13 @@ use Rattle.index.specs.Numbers.{bits, union}
 use Rattle.index.specs.Maps.{IsMap}
 use Rattle.index.specs.Values.{has}
 use Rattle.index.proofs.MapFacts.{map-of, map-same, union-map}
-use Rattle.index.proofs.map.Map.join.Needs as need
+use Rattle.index.proofs.maps.union.Needs as need
 
 joined : (m n : Map) (ws : List ℕ) → ((q : ℕ) → bits ws q ≡ (has m q || has n q)) → IsMap (bits ws)
 joined m n ws e = map-same (union (has m) (has n)) (bits ws) e (union-map (has m) (has n) (map-of (m .lawful)) (map-of (n .lawful)))
 
-pub ghost-self : need.ghost-self
-ghost-self c = (∣ joined (c .args .self .now) (c .args .other .now) _ (c .union-self .ensures) ∣₁, tt)
+pub ghost-result : need.ghost-result
+ghost-result c = (∣ joined (c .args .a .now) (c .args .b .now) _ (c .union .ensures) ∣₁, tt)
 
 pub returns : need.returns
-returns c = record { is-map = joined (c .args .self .now) (c .args .other .now) _ (c .union-self .ensures); both = c .union-self .ensures }
+returns c = record { is-map = joined (c .args .a .now) (c .args .b .now) _ (c .union .ensures); both = c .union .ensures }

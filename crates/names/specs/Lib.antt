@@ -1,0 +1,3 @@
+pub mod Names
+pub mod Refusals
+pub mod Shortening
