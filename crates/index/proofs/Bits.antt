@@ -1,7 +1,7 @@
 -- What each operation on words does to a bit, and numbers with the same bits.
 use Prim.Native.Nat.{ℕ, zero, suc, _+_, _-_, _*_, _/_, _%_, _^_, _≤_, _<_, min, max}
 use mathlib.Core.Path.{_≡_, sym, ap, ap₂, subst, _∙_}
-use mathlib.Core.Bool.{Bool, true, _&&_}
+use mathlib.Core.Bool.{Bool, true}
 use mathlib.Core.Logic.{inl, inr}
 use native.Mathlib.Nat.{mod-lt, div-add-mod', mul-add-mod-self-right, pow-suc, mod-eq-of-lt, zero-div, div-one, add-zero, mul-comm}
 use native.Mathlib.Numerals.{add-one, one-add}
@@ -10,7 +10,7 @@ use lib.Pow.{pow-pos, shl-shr, shr-shr, field, mod-mod-pow, low, high, shr-lt}
 use lib.Arith.{digits-lt}
 use lib.Bits.{bitAnd, bitOr, and-shr, or-shr, and-step, or-step}
 use Rattle.std.proofs.shelf.Tests.{cases-lt, and-parts}
-use Rattle.index.specs.Numbers.{bit}
+use Rattle.index.specs.Numbers.{bit, every-below}
 use Rattle.index.specs.Ranges.{reversed}
 
 pub bit-lt : (n k : ℕ) → bit n k < 2
@@ -109,15 +109,11 @@ bit-reversed (suc w) n k h = elim (cases-lt k w) [
 
 -- ---- a test at each number below n, which antt computes
 
-abbrev pub upTo : ℕ → (ℕ → Bool) → Bool
-upTo zero f = true
-upTo (suc n) f = f n && upTo n f
-
-pub at : (n : ℕ) (f : ℕ → Bool) → upTo n f ≡ true → (k : ℕ) → k < n → f k ≡ true
+pub at : (n : ℕ) (f : ℕ → Bool) → every-below f n ≡ true → (k : ℕ) → k < n → f k ≡ true
 at zero f t k h = absurd (omega arith)
 at (suc n) f t k h = elim (cases-lt k n) [
-  | inl lt ↦ at n f (and-parts (f n) (upTo n f) t .1) k lt
-  | inr ge ↦ ap f (top ge) ∙ and-parts (f n) (upTo n f) t .0
+  | inl lt ↦ at n f (and-parts (f n) (every-below f n) t .1) k lt
+  | inr ge ↦ ap f (top ge) ∙ and-parts (f n) (every-below f n) t .0
 ]
   where
     top : n ≤ k → k ≡ n

@@ -1,17 +1,16 @@
 -- Filling up a set: `filled` is the least map that has it.
 use mathlib.Core.Path.{_≡_, refl, sym, ap, ap₂, subst, _∙_, fun-ext}
 use mathlib.Core.Logic.{_⊎_, inl, inr}
-use mathlib.Core.Bool.{Bool, true, false, _&&_, _||_}
+use mathlib.Core.Bool.{Bool, true, false, _&&_, _||_, or-false}
 use Prim.Native.Nat.{ℕ, zero, suc, _+_, _-_, _%_, _^_, _≤_, _<_}
 use native.Mathlib.Nat.{le-refl, pow-suc, mod-lt, mod-eq-of-lt, add-mod-right}
-use native.Mathlib.Numerals.{add-one}
 use native.Mathlib.Omega.{arith}
 use lib.Dec.{eqb, leb, T}
 use lib.Pow.{pow-pos, pow-mono, pow-lt, mod-mod-pow}
 use Rattle.std.proofs.shelf.Tests.{cases-lt, cases-order, and-parts, and-from, leb-true, le-leb, both-ways, or-cases, or-left, or-right, eqb-true, eq-eqb}
 use Rattle.index.specs.Numbers.{Numbers, Within, some-below}
 use Rattle.index.specs.Maps.{IsMap, Fills, wants, filled}
-use Rattle.index.proofs.Walks.{T-true, true-T}
+use Rattle.index.proofs.Truth.{T-true, true-T}
 
 pub some-from : (t : ℕ → Bool) (n k : ℕ) → k < n → t k ≡ true → some-below t n ≡ true
 some-from t zero k l h = absurd (omega arith)
@@ -28,33 +27,13 @@ some-gives t (suc n) h = go (or-cases _ _ h) (λ a. some-gives t n a)
     go (inl a) ih = (n, le-refl _, a)
     go (inr a) ih = let r = ih a in (r .0, omega (arith, r .1), r .2)
 
--- a loop puts in what number n brings, x
-pub some-more : (t : ℕ → Bool) (n : ℕ) (a b c x : Bool) → c ≡ (b || x) → x ≡ t n → b ≡ (a || some-below t n) → c ≡ (a || some-below t (n + 1))
-some-more t n a b c x e f g =
-    e ∙ ap₂ _||_ g f ∙ regroup a (some-below t n) (t n) ∙ ap (λ (k : ℕ). a || some-below t k) (sym (add-one n))
-  where
-    regroup : (a b w : Bool) → ((a || b) || w) ≡ (a || (w || b))
-    regroup true b w = refl
-    regroup false true true = refl
-    regroup false true false = refl
-    regroup false false true = refl
-    regroup false false false = refl
-
--- or number n brings nothing
-pub some-same : (t : ℕ → Bool) (n : ℕ) (a b : Bool) → t n ≡ false → b ≡ (a || some-below t n) → b ≡ (a || some-below t (n + 1))
-some-same t n a b e g = some-more t n a b b false (right b) (sym e) g
-  where
-    right : (b : Bool) → b ≡ (b || false)
-    right true = refl
-    right false = refl
-
 -- ---- powers
 
 -- the digits below e of a number that begins with the digits d
 low-low : (n e f : ℕ) → f ≤ e → n % 2 ^ e % 2 ^ f ≡ n % 2 ^ f
 low-low n e f l = let z : e ≡ (e - f) + f = omega arith in subst (λ (k : ℕ). n % 2 ^ k % 2 ^ f ≡ n % 2 ^ f) (sym z) (mod-mod-pow n (e - f) f)
 
-top-mod : (p k : ℕ) → p < 2 ^ k → (p + 2 ^ k) % 2 ^ k ≡ p
+pub top-mod : (p k : ℕ) → p < 2 ^ k → (p + 2 ^ k) % 2 ^ k ≡ p
 top-mod p k h = add-mod-right p (2 ^ k) ∙ mod-eq-of-lt h
 
 -- a number with a top digit is that digit and the rest, in one way
@@ -73,7 +52,7 @@ one-top p q r e h k s = go (cases-order r e)
     go (inr (inr l)) = absurd (apart q p _ _ k (twice e r l) (sym s))
 
 -- a number below 2 ^ k that is not 0 has a top digit
-topped : (k n : ℕ) → n < 2 ^ k → (n ≡ 0) ⊎ ((t : ℕ) × (t < k) × (2 ^ t ≤ n) × (n ≡ n % 2 ^ t + 2 ^ t))
+pub topped : (k n : ℕ) → n < 2 ^ k → (n ≡ 0) ⊎ ((t : ℕ) × (t < k) × (2 ^ t ≤ n) × (n ≡ n % 2 ^ t + 2 ^ t))
 topped zero n h = inl (omega arith)
 topped (suc k) n h = go (cases-lt n (2 ^ k)) (λ l. topped k n l)
   where
@@ -129,20 +108,12 @@ source s q r = s r && wants r q
 abbrev pub rung : ℕ → ℕ → ℕ → Bool
 rung r q e = leb (2 ^ e) r && eqb q (r % 2 ^ e + 2 ^ e)
 
--- a map that has r has what r wants
-pub wanted : (m : Numbers) → IsMap m → (r q : ℕ) → T (m r) → wants r q ≡ true → T (m q)
-unfolding wants
-wanted m M r q t h =
-    let c = some-gives (rung r q) 9 h in
-    let d = and-parts (leb (2 ^ c .0) r) (eqb q (r % 2 ^ c .0 + 2 ^ c .0)) (c .2) in
-    subst (λ (j : ℕ). T (m j)) (sym (eqb-true _ _ (d .1))) (ladder m M 9 r (c .0) (M .bounded r t) t (leb-true _ _ (d .0)))
-
 module _ (s : Numbers) (bounded : (q : ℕ) → T (s q) → q < 512) where
   -- why a number is in
-  abbrev Why : ℕ → Type 0
+  abbrev pub Why : ℕ → Type 0
   Why q = (q ≡ 0) ⊎ ((r : ℕ) × (e : ℕ) × (s r ≡ true) × (e < 9) × (2 ^ e ≤ r) × (q ≡ r % 2 ^ e + 2 ^ e))
 
-  why : (q : ℕ) → T (filled s q) → Why q
+  pub why : (q : ℕ) → T (filled s q) → Why q
   unfolding filled wants
   why q t = go (or-cases (eqb q 0) (some-below (source s q) 512) (T-true t))
     where
@@ -230,12 +201,8 @@ fills-as s f bounded e = subst (Fills s) (sym (fun-ext e)) (filled-fills s bound
 -- the empty set gives 0 alone
 pub filled-none : (s : Numbers) → ((q : ℕ) → s q ≡ false) → (q : ℕ) → filled s q ≡ eqb q 0
 unfolding filled
-filled-none s h q = ap (λ (b : Bool). eqb q 0 || b) (none 512) ∙ right (eqb q 0)
+filled-none s h q = ap (λ (b : Bool). eqb q 0 || b) (none 512) ∙ or-false (eqb q 0)
   where
     none : (n : ℕ) → some-below (source s q) n ≡ false
     none zero = refl
     none (suc n) = ap₂ (λ (a b : Bool). (a && wants n q) || b) (h n) (none n)
-
-    right : (b : Bool) → (b || false) ≡ b
-    right true = refl
-    right false = refl

@@ -1,7 +1,10 @@
+pub mod Truth
 pub mod Bits
 pub mod Reverse
 pub mod Digits
 pub mod Walks
 pub mod Filling
+pub mod Folding
 pub mod WordSets
+pub mod Lowering
 pub mod MapFacts

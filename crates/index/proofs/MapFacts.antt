@@ -1,18 +1,16 @@
 -- Maps as the types hold them: the invariant in hand, and what keeps it.
 use mathlib.Core.Path.{_≡_, sym, ap, _∙_}
 use mathlib.Core.HLevel.{Π-prop}
-use mathlib.Core.Logic.{_⊎_, inl, inr, ∥∥₁-elim}
-use mathlib.Core.Bool.{Bool, true, false, _||_}
+use mathlib.Core.Logic.{inl, inr, ∥∥₁-elim}
 use Prim.Native.Nat.{ℕ, _+_, _-_, _*_, _/_, _^_, _≤_, _<_}
 use native.Mathlib.Nat.{div-eq-of-lt-le, mul-le-mul-left}
 use native.Mathlib.Bridge.{le-prop}
 use native.Mathlib.Omega.{arith}
 use lib.Pow.{pow-pos, pow-add}
-use lib.Dec.{T, T-prop, eqb}
-use Rattle.std.proofs.shelf.Tests.{eqb-true}
+use lib.Dec.{T-prop}
 use Rattle.index.specs.Numbers.{Numbers, Within, union}
 use Rattle.index.specs.Maps.{IsMap}
-use Rattle.index.proofs.Walks.{T-true}
+use Rattle.index.proofs.Truth.{T-or, T-left, T-right}
 use Rattle.index.specs.Ranges.{reversed, start}
 use Rattle.index.proofs.Bits.{reversed-lt}
 use Rattle.index.proofs.Digits.{start-short}
@@ -40,18 +38,6 @@ map-same m n e M = record {
 
 -- ---- unions
 
-T-or : (a b : Bool) → T (a || b) → T a ⊎ T b
-T-or true b t = inl tt
-T-or false b t = inr t
-
-T-left : (a b : Bool) → T a → T (a || b)
-T-left true b t = tt
-T-left false b t = absurd t
-
-T-right : (a b : Bool) → T b → T (a || b)
-T-right true b t = tt
-T-right false b t = t
-
 within-left : (m n : Numbers) → Within m (union m n)
 within-left m n q t = T-left (m q) (n q) t
 
@@ -70,16 +56,6 @@ union-map m n M N = record {
     | inl h ↦ within-left m n (p + 2 ^ s) (M .earlier p r s l k h)
     | inr h ↦ within-right m n (p + 2 ^ s) (N .earlier p r s l k h)
   ];
-}
-
--- ---- the map with 0 alone
-
-pub root-map : (m : Numbers) → ((q : ℕ) → m q ≡ eqb q 0) → IsMap m
-root-map m e = map-same (λ q. eqb q 0) m e record {
-  root = tt;
-  bounded = λ q t. omega (arith, eqb-true q 0 (T-true t));
-  parent = λ p r l t. absurd (omega (arith, eqb-true (p + 2 ^ r) 0 (T-true t), pow-pos r));
-  earlier = λ p r s l k t. absurd (omega (arith, eqb-true (p + 2 ^ r) 0 (T-true t), pow-pos r));
 }
 
 -- ---- ranges

@@ -9,9 +9,9 @@ use lib.Dec.{eqb, ltb, leb}
 use lib.Pow.{pow-pos}
 use lib.Bits.{bitAnd, bitOr, and-le-r, or-lt}
 use Rattle.std.proofs.shelf.Tests.{cases-lt, cases-bool, and-parts, or-cases, eqb-true, eqb-false, ltb-true, leb-true, cond-true, cond-false}
-use Rattle.index.specs.Numbers.{bit}
+use Rattle.index.specs.Numbers.{bit, every-below}
 use Rattle.index.specs.Ranges.{reversed}
-use Rattle.index.proofs.Bits.{bit-lt, bit-or, bit-and, bit-shr, bit-shl, bit-shl-below, bit-mod, bit-reversed, reversed-lt, same-bits, upTo, at}
+use Rattle.index.proofs.Bits.{bit-lt, bit-or, bit-and, bit-shr, bit-shl, bit-shl-below, bit-mod, bit-reversed, reversed-lt, same-bits, at}
 
 -- the groups of bits under the mask and those above them change places
 abbrev pub swapped : ℕ → ℕ → ℕ → ℕ
@@ -64,7 +64,7 @@ bit-swapped x s mask i h r = elim (cases-bool (eqb (bit mask i) 1)) [
 ]
 
 -- one exchange, at each place of a word
-exchange : (s mask : ℕ) → upTo 32 (λ i. right s mask i && ltb (source s mask i) 32) ≡ true → (x i : ℕ) → i < 32
+exchange : (s mask : ℕ) → every-below (λ i. right s mask i && ltb (source s mask i) 32) 32 ≡ true → (x i : ℕ) → i < 32
     → (bit (swapped x s mask) i ≡ bit x (source s mask i)) × (source s mask i < 32)
 exchange s mask t x i h =
     let p = and-parts (right s mask i) (ltb (source s mask i) 32) (at 32 (λ i. right s mask i && ltb (source s mask i) 32) t i h) in

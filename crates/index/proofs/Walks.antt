@@ -5,23 +5,14 @@ use mathlib.Core.Bool.{Bool, true, false, cond, _&&_, not}
 use Prim.Native.Nat.{ℕ, zero, suc, _+_, _^_, _≤_, _<_}
 use native.Mathlib.Nat.{le-refl}
 use native.Mathlib.Omega.{arith}
-use lib.Dec.{ltb, T}
+use lib.Dec.{ltb}
 use lib.Pow.{pow-mono}
 use Rattle.std.proofs.shelf.Tests.{cases-lt, cases-order, and-parts, and-from, and-left, and-right, leb-true, ltb-true, lt-ltb, le-ltb, le-leb, both-ways, not-true, not-false, not-from-true, not-from-false}
 use Rattle.index.specs.Numbers.{Numbers}
 use Rattle.index.specs.Maps.{IsMap}
 use Rattle.index.specs.Ranges.{first, depth, covers, part-for, Alone}
+use Rattle.index.proofs.Truth.{T-true, true-T}
 use Rattle.index.proofs.Digits.{digit, path, digit-cases, path-zero, path-one, path-lt, path-stays, in-range, range-in}
-
-pub T-true : {b : Bool} → T b → b ≡ true
-T-true {b} = go b
-  where
-    go : (b : Bool) → T b → b ≡ true
-    go true t = refl
-    go false t = absurd t
-
-pub true-T : {b : Bool} → b ≡ true → T b
-true-T e = subst T (sym e) tt
 
 -- ---- the first that passes
 

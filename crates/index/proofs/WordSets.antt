@@ -1,15 +1,15 @@
 -- Sets in words: what a word's operations do to the numbers in the set.
 use mathlib.Core.Path.{_≡_, refl, sym, ap, ap₂, subst, _∙_}
 use mathlib.Core.Logic.{inl, inr}
-use mathlib.Core.Bool.{Bool, true, false, cond, _||_}
-use mathlib.Core.List.{List, [], _∷_}
+use mathlib.Core.Bool.{Bool, true, false, cond, _||_, or-false}
+use mathlib.Core.List.{List}
 use Prim.Native.Nat.{ℕ, zero, suc, _+_, _*_, _/_, _%_, _^_, _≤_, _<_, max}
 use native.Mathlib.Nat.{one-mul, add-suc, add-zero, div-eq-of-lt, div-self, mod-eq-of-lt, mod-lt, mod-one}
 use native.Mathlib.Numerals.{one-add}
 use native.Mathlib.Omega.{arith}
 use lib.Bits.{bitOr}
 use lib.Count.{ones, ones-cat}
-use lib.Dec.{eqb, T, lit<}
+use lib.Dec.{eqb, T}
 use lib.ListN.{length, getD, set, replicate}
 use lib.Pow.{pow-pos, pow-lt, mod-pow-add}
 use Rattle.std.proofs.shelf.Bits.{one-shl}
@@ -19,10 +19,10 @@ use Rattle.std.proofs.shelf.Ways.{tells}
 use Rattle.index.specs.Numbers.{Numbers, bit, bits, size}
 use Rattle.index.proofs.Bits.{bit-lt, bit-or, bit-zero, bit-shl-below}
 
-abbrev on : ℕ → ℕ → Bool
+abbrev pub on : ℕ → ℕ → Bool
 on w k = eqb (bit w k) 1
 
-on-or : (a b k : ℕ) → on (bitOr a b) k ≡ (on a k || on b k)
+pub on-or : (a b k : ℕ) → on (bitOr a b) k ≡ (on a k || on b k)
 on-or a b k = ap (λ (x : ℕ). eqb x 1) (bit-or a b k) ∙ either (bit a k) (bit b k) (bit-lt a k) (bit-lt b k)
   where
     either : (x y : ℕ) → x < 2 → y < 2 → eqb (max x y) 1 ≡ (eqb x 1 || eqb y 1)
@@ -61,7 +61,7 @@ bits-inserted ws q h k = elim (cases-eq (k / 64) (q / 64)) [
       ∙ ap₂ _||_ (ap (λ (i : ℕ). on (getD ws i 0) (k % 64)) (sym e)) (on-one (q % 64) (k % 64) ∙ same e)
   | inr ne ↦
       ap (λ (w : ℕ). on w (k % 64)) (getD-set-other ws (q / 64) (k / 64) new 0 ne)
-      ∙ right (bits ws k) (eqb k q) (ne-eqb k q (λ e. ne (ap (λ (n : ℕ). n / 64) e)))
+      ∙ sym (ap (λ (b : Bool). bits ws k || b) (ne-eqb k q (λ e. ne (ap (λ (n : ℕ). n / 64) e))) ∙ or-false (bits ws k))
 ]
   where
     new : ℕ
@@ -69,10 +69,6 @@ bits-inserted ws q h k = elim (cases-eq (k / 64) (q / 64)) [
 
     same : k / 64 ≡ q / 64 → eqb (k % 64) (q % 64) ≡ eqb k q
     same e = grind (arith, tells)
-
-    right : (x y : Bool) → y ≡ false → x ≡ (x || y)
-    right true y e = refl
-    right false y e = sym e
 
 -- words of zeros hold no number
 pub bits-none : (n k : ℕ) → bits (replicate {A = ℕ} n 0) k ≡ false
@@ -82,10 +78,6 @@ bits-none n k = ap (λ (w : ℕ). on w (k % 64)) (zeros n (k / 64)) ∙ ap (λ (
     zeros zero i = refl
     zeros (suc n) zero = refl
     zeros (suc n) (suc i) = zeros n i
-
--- the words of the set with 0 alone
-pub root-only : (q : ℕ) → bits (1 ∷ 0 ∷ 0 ∷ 0 ∷ 0 ∷ 0 ∷ 0 ∷ 0 ∷ []) q ≡ eqb q 0
-root-only q = bits-inserted (replicate 8 0) 0 (lit< tt) q ∙ ap (λ (b : Bool). b || eqb q 0) (bits-none 8 q)
 
 -- word by word, the numbers of either set
 pub bits-union : (xs ys zs : List ℕ) → ((i : ℕ) → getD zs i 0 ≡ bitOr (getD xs i 0) (getD ys i 0)) → (k : ℕ) → bits zs k ≡ (bits xs k || bits ys k)

@@ -1,11 +1,11 @@
 // Sets of partition numbers, a bit for each number below 512, in eight words.
 ghost use mathlib.Core.Path.{_≡_};
-ghost use mathlib.Core.Bool.{_||_};
+ghost use mathlib.Core.Bool.{true, _||_};
 ghost use Prim.Native.Nat.{ℕ, _-_, _*_, _^_, _<_, _≤_};
 ghost use lib.Dec.{eqb, T};
 ghost use lib.ListN.{replicate};
 ghost use Rattle.index.specs.Numbers.{bit, bits, size};
-ghost use Rattle.index.specs.Maps.{IsMap, Fills, wants, filled};
+ghost use Rattle.index.specs.Maps.{IsMap, Fills, filled, lowered, marks};
 ghost use Rattle.index.specs.Ranges.{depth, part-for, Alone};
 
 // A 1 in binary place e of a partition number.
@@ -52,31 +52,48 @@ pub(crate) fn count(words: &[u64; 8]) -> u16
     n
 }
 
-// Adds all that a map with r has, but for 0: for each place of a digit of r, the digits below it under a 1 in that place.
-fn insert_wanted(words: &mut [u64; 8], r: u16)
-    requires { ⌜ r < 512 ⌝ }
-    ensures { λ _. ⌜ ((k : ℕ) → bits (now (words .exit)) k ≡ (bits (now (words .entry)) k || wants r k)) ⌝ }
+// One level of filling up, where it is `by` whole words wide.
+fn lower_words(words: &mut [u64; 8], by: usize)
+    requires { ⌜ 1 ≤ by ⌝ ∗ ⌜ by ≤ 2 ⌝ }
+    ensures { λ _. ⌜ ((q : ℕ) → bits (now (words .exit)) q ≡ lowered (64 * by) (bits (now (words .entry))) q) ⌝ }
 {
-    for e in 0..9 {
-        let place = power(e);
-        if place <= r {
-            insert(words, r % place + place);
-        }
+    for i in by..2 * by {
+        words[i] |= words[i + by] | words[i + 2 * by];
     }
 }
 
-// The least map that has all numbers of the set. The empty set gives the map with 0 alone.
+// The level that is the upper half of the first word.
+fn lower_half(words: &mut [u64; 8])
+    ensures { λ _. ⌜ ((q : ℕ) → bits (now (words .exit)) q ≡ lowered 32 (bits (now (words .entry))) q) ⌝ }
+{
+    words[0] |= (words[1] | (words[1] >> 32)) << 32;
+}
+
+// A level that is `by` bits of the first word, those under the mask.
+fn lower_bits(words: &mut [u64; 8], by: u32, mask: u64)
+    requires { ⌜ by ≤ 16 ⌝ ∗ ⌜ marks by mask ≡ true ⌝ }
+    ensures { λ _. ⌜ ((q : ℕ) → bits (now (words .exit)) q ≡ lowered by (bits (now (words .entry))) q) ⌝ }
+{
+    words[0] |= ((words[0] >> by) | (words[0] >> (2 * by))) & mask;
+}
+
+// The least map that has all numbers of the set; of the empty set, the map with 0 alone. Level by level from the top, each number brings
+// the one that is left of it when the binary digit below its highest is taken out, and 0 is in every map.
 pub(crate) fn fill(set: &[u64; 8]) -> [u64; 8]
     ensures value { λ r. ⌜ ((q : ℕ) → bits r q ≡ filled (bits (now (set .entry))) q) ⌝ }
     ensures least { λ r. ⌜ Fills (bits (now (set .entry))) (bits r) ⌝ }
     ensures empty { λ r. ⌜ (now (set .entry) ≡ replicate 8 0 → (q : ℕ) → bits r q ≡ eqb q 0) ⌝ }
 {
-    let mut words = [1, 0, 0, 0, 0, 0, 0, 0];
-    for r in 0..512 {
-        if test(set, r) {
-            insert_wanted(&mut words, r);
-        }
-    }
+    let mut words = *set;
+    lower_words(&mut words, 2);
+    lower_words(&mut words, 1);
+    lower_half(&mut words);
+    lower_bits(&mut words, 16, 0xffff_0000);
+    lower_bits(&mut words, 8, 0xff00);
+    lower_bits(&mut words, 4, 0xf0);
+    lower_bits(&mut words, 2, 0xc);
+    lower_bits(&mut words, 1, 0x2);
+    insert(&mut words, 0);
     words
 }
 

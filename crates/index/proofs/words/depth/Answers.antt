@@ -6,7 +6,8 @@ use borrow.Author.Count.{below-more}
 use lib.Dec.{ltb}
 use Rattle.std.proofs.shelf.Tests.{and-from, and-left, and-right, lt-ltb, le-ltb, not-from-false, not-from-true}
 use Rattle.index.specs.Numbers.{Numbers, bits}
-use Rattle.index.proofs.Walks.{deep, depth-found, none-above, T-true}
+use Rattle.index.proofs.Truth.{T-true}
+use Rattle.index.proofs.Walks.{deep, depth-found, none-above}
 use Rattle.index.specs.Maps.{IsMap}
 use Rattle.index.specs.Ranges.{depth}
 use lib.Dec.{T}
