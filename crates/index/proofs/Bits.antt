@@ -10,7 +10,8 @@ use lib.Pow.{pow-pos, shl-shr, shr-shr, field, mod-mod-pow, low, high, shr-lt}
 use lib.Arith.{digits-lt}
 use lib.Bits.{bitAnd, bitOr, and-shr, or-shr, and-step, or-step}
 use Rattle.std.proofs.shelf.Tests.{cases-lt, and-parts}
-use Rattle.index.specs.Numbers.{bit, every-below}
+use Rattle.index.specs.Numbers.{bit}
+use Rattle.index.specs.Levels.{every-below}
 use Rattle.index.specs.Ranges.{reversed}
 
 pub bit-lt : (n k : ℕ) → bit n k < 2

@@ -10,7 +10,8 @@ use lib.Dec.{eqb, leb, ltb, T}
 use lib.Pow.{pow-pos, pow-mono, mod-pow-add}
 use Rattle.std.proofs.shelf.Tests.{cases-lt, and-from, and-left, and-right, lt-ltb, le-ltb, le-leb, lt-leb, ne-eqb}
 use Rattle.index.specs.Numbers.{Numbers, bit}
-use Rattle.index.specs.Maps.{IsMap, Fills, filled, lowered}
+use Rattle.index.specs.Maps.{IsMap, Fills, filled}
+use Rattle.index.specs.Levels.{lowered}
 use Rattle.index.proofs.Bits.{bit-lt}
 use Rattle.index.proofs.Filling.{filled-fills, one-top, topped, ladder, top-mod, Why, why}
 use Rattle.index.proofs.Truth.{T-true, true-T, T-same, T-or, T-left, T-right}

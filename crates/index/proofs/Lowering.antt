@@ -10,8 +10,8 @@ use lib.Dec.{eqb, leb, ltb}
 use lib.ListN.{length, getD, set}
 use lib.Seq.{getD-set-same, getD-set-other}
 use Rattle.std.proofs.shelf.Tests.{cases-lt}
-use Rattle.index.specs.Numbers.{bit, bits, alike}
-use Rattle.index.specs.Maps.{lowered, marks}
+use Rattle.index.specs.Numbers.{bit, bits}
+use Rattle.index.specs.Levels.{lowered, marks, alike}
 use Rattle.index.proofs.Bits.{bit-lt, bit-and, bit-shr, bit-shl, bit-shl-below, bit-mod, at}
 use Rattle.index.proofs.Folding.{lowered-same, lowered-joins}
 use Rattle.index.proofs.WordSets.{on, on-or}

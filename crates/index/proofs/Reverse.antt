@@ -9,7 +9,8 @@ use lib.Dec.{eqb, ltb, leb}
 use lib.Pow.{pow-pos}
 use lib.Bits.{bitAnd, bitOr, and-le-r, or-lt}
 use Rattle.std.proofs.shelf.Tests.{cases-lt, cases-bool, and-parts, or-cases, eqb-true, eqb-false, ltb-true, leb-true, cond-true, cond-false}
-use Rattle.index.specs.Numbers.{bit, every-below}
+use Rattle.index.specs.Numbers.{bit}
+use Rattle.index.specs.Levels.{every-below}
 use Rattle.index.specs.Ranges.{reversed}
 use Rattle.index.proofs.Bits.{bit-lt, bit-or, bit-and, bit-shr, bit-shl, bit-shl-below, bit-mod, bit-reversed, reversed-lt, same-bits, at}
 

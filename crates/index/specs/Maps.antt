@@ -1,9 +1,9 @@
 -- Maps: the sets of partition numbers that splitting can lead to. Partition numbers run from 0 to 511,
 -- and p + 2 ^ r with p < 2 ^ r is a child of p.
 use mathlib.Core.Bool.{Bool, _&&_, _||_}
-use Prim.Native.Nat.{ℕ, _+_, _*_, _%_, _^_, _<_}
-use lib.Dec.{eqb, leb, ltb, T}
-use Rattle.index.specs.Numbers.{Numbers, Within, some-below, every-below, alike, bit}
+use Prim.Native.Nat.{ℕ, _+_, _%_, _^_, _<_}
+use lib.Dec.{eqb, leb, T}
+use Rattle.index.specs.Numbers.{Numbers, Within, some-below}
 
 -- a map has 0 and, with each child, its parent and the parent's earlier children
 pub record IsMap (m : Numbers) : Type 0 where
@@ -25,11 +25,3 @@ wants r q = some-below (λ e. leb (2 ^ e) r && eqb q (r % 2 ^ e + 2 ^ e)) 9
 -- a set of numbers below 512, filled up to a map
 unfoldable pub filled : Numbers → Numbers
 filled s q = eqb q 0 || some-below (λ r. s r && wants r q) 512
-
--- one level of filling up: a number from b to below 2 * b joins where one that is b or 2 * b above it is in
-abbrev pub lowered : ℕ → Numbers → Numbers
-lowered b s q = s q || ((s (q + b) || s (q + 2 * b)) && (leb b q && ltb q (2 * b)))
-
--- the mask has a 1 in each place from b to below 2 * b, and in no other of 64
-abbrev pub marks : ℕ → ℕ → Bool
-marks b mask = every-below (λ k. alike (eqb (bit mask k) 1) (leb b k && ltb k (2 * b))) 64

@@ -1,5 +1,5 @@
 -- Sets of numbers, and how words of 64 bits hold one.
-use mathlib.Core.Bool.{Bool, true, false, cond, not, _&&_, _||_}
+use mathlib.Core.Bool.{Bool, false, cond, _||_}
 use mathlib.Core.List.{List}
 use Prim.Native.Nat.{ℕ, zero, suc, _+_, _/_, _%_, _^_}
 use lib.Dec.{eqb, T}
@@ -21,14 +21,6 @@ union m n q = m q || n q
 abbrev pub some-below : (ℕ → Bool) → ℕ → Bool
 some-below t zero = false
 some-below t (suc k) = t k || some-below t k
-
--- every number below k passes the test
-abbrev pub every-below : (ℕ → Bool) → ℕ → Bool
-every-below t zero = true
-every-below t (suc k) = t k && every-below t k
-
-abbrev pub alike : Bool → Bool → Bool
-alike a b = cond a b (not b)
 
 -- how many numbers below k are in m
 unfoldable pub size : Numbers → ℕ → ℕ

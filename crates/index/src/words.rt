@@ -5,7 +5,8 @@ ghost use Prim.Native.Nat.{ℕ, _-_, _*_, _^_, _<_, _≤_};
 ghost use lib.Dec.{eqb, T};
 ghost use lib.ListN.{replicate};
 ghost use Rattle.index.specs.Numbers.{bit, bits, size};
-ghost use Rattle.index.specs.Maps.{IsMap, Fills, filled, lowered, marks};
+ghost use Rattle.index.specs.Maps.{IsMap, Fills, filled};
+ghost use Rattle.index.specs.Levels.{lowered, marks};
 ghost use Rattle.index.specs.Ranges.{depth, part-for, Alone};
 
 // A 1 in binary place e of a partition number.

@@ -5,7 +5,8 @@ use mathlib.Core.List.{List}
 use Prim.Native.Nat.{ℕ}
 use lib.Dec.{eqb}
 use Rattle.index.specs.Numbers.{Numbers, bits}
-use Rattle.index.specs.Maps.{filled, lowered}
+use Rattle.index.specs.Maps.{filled}
+use Rattle.index.specs.Levels.{lowered}
 use Rattle.index.proofs.Filling.{fills-as, filled-none}
 use Rattle.index.proofs.Folding.{folds, folds-folded, filled-folded, folded-one}
 use Rattle.index.proofs.WordSets.{below-512, bits-none}
