@@ -1,0 +1,4 @@
+pub mod Operations
+pub mod Tail
+pub mod Blocks
+pub mod Vectors
