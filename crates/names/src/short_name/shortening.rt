@@ -29,17 +29,6 @@ impl ShortName {
     }
 }
 
-/// Names are the same where their short forms are equal.
-pub impl PartialEq<ShortName> for ShortName as ShortNamePartialEq {
-    ghost equals = { λ a b r. Decides r (text a ≡ text b) };
-
-    fn eq(&self, other: &ShortName) -> bool {
-        same_bytes(self.as_bytes(), other.as_bytes())
-    }
-}
-
-pub impl Eq for ShortName as ShortNameEq {}
-
 fn same_bytes(a: &[u8], b: &[u8]) -> bool
     ensures { λ r. ⌜ Decides r (now (a .entry) ≡ now (b .entry)) ⌝ }
 {
@@ -63,6 +52,17 @@ fn all_kept(name: &[u8]) -> bool
     }
     true
 }
+
+/// Names are the same where their short forms are equal.
+pub impl PartialEq<ShortName> for ShortName as ShortNamePartialEq {
+    ghost equals = { λ a b r. Decides r (text a ≡ text b) };
+
+    fn eq(&self, other: &ShortName) -> bool {
+        same_bytes(self.as_bytes(), other.as_bytes())
+    }
+}
+
+pub impl Eq for ShortName as ShortNameEq {}
 
 /// Whether a name is a short form.
 pub fn is_short(name: &[u8]) -> bool

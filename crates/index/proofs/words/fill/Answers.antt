@@ -16,15 +16,15 @@ pub returns : need.returns
 returns c =
     let s = bits (c .args .set .now) in
     let b = below-512 (c .args .set .now) (c .told-set) in
-    let l7 = fun-ext (c .lower-words .ensures) in
-    let l6 = fun-ext (c .lower-words-2 .ensures) ∙ ap (lowered 64) l7 in
-    let l5 = fun-ext (c .lower-half .ensures) ∙ ap (lowered 32) l6 in
-    let l4 = fun-ext (c .lower-bits .ensures) ∙ ap (lowered 16) l5 in
-    let l3 = fun-ext (c .lower-bits-2 .ensures) ∙ ap (lowered 8) l4 in
-    let l2 = fun-ext (c .lower-bits-3 .ensures) ∙ ap (lowered 4) l3 in
-    let l1 = fun-ext (c .lower-bits-4 .ensures) ∙ ap (lowered 2) l2 in
-    let l0 = fun-ext (c .lower-bits-5 .ensures) ∙ ap (lowered 1) l1 in
-    let f : (q : ℕ) → bits (c .insert .last .words) q ≡ (folds 8 s q || eqb q 0) = λ q. c .insert .ensures q ∙ ap (λ (m : Numbers). m q || eqb q 0) l0 in
+    let level7 = fun-ext (c .lower-words .ensures) in
+    let level6 = fun-ext (c .lower-words-2 .ensures) ∙ ap (lowered 64) level7 in
+    let level5 = fun-ext (c .lower-half .ensures) ∙ ap (lowered 32) level6 in
+    let level4 = fun-ext (c .lower-bits .ensures) ∙ ap (lowered 16) level5 in
+    let level3 = fun-ext (c .lower-bits-2 .ensures) ∙ ap (lowered 8) level4 in
+    let level2 = fun-ext (c .lower-bits-3 .ensures) ∙ ap (lowered 4) level3 in
+    let level1 = fun-ext (c .lower-bits-4 .ensures) ∙ ap (lowered 2) level2 in
+    let level0 = fun-ext (c .lower-bits-5 .ensures) ∙ ap (lowered 1) level1 in
+    let f : (q : ℕ) → bits (c .insert .last .words) q ≡ (folds 8 s q || eqb q 0) = λ q. c .insert .ensures q ∙ ap (λ (m : Numbers). m q || eqb q 0) level0 in
     let e : (q : ℕ) → bits (c .insert .last .words) q ≡ filled s q = folded-one s (bits (c .insert .last .words)) (filled s) (folds-folded s (bits (c .insert .last .words)) b f) (filled-folded s b) in
     record {
       value = e;
