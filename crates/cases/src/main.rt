@@ -1,13 +1,10 @@
 // Worked cases of names, maps, servers and settings, and the test suite of RFC 1321. The file `stdout` has what each must give.
 mod display;
 
-use display::Braced;
-use display::BracedDisplay;
 use display::Digest;
 use display::DigestDisplay;
-use display::Spaced;
-use display::SpacedDisplay;
 use index::Map;
+use index::MapDisplay;
 use index::PartitionSet;
 use index::Settings;
 use names::ShortNamePartialEq;
@@ -74,7 +71,7 @@ fn filled(partitions: &[u16]) -> Map {
 }
 
 fn ranges(rt: &impl Print, map: &Map) -> io::Result<()> {
-    print!(rt, "depths in {}:", Braced(map))?;
+    print!(rt, "depths in {map}:")?;
     for p in 0..512 {
         if let Some(depth) = map.depth(p) {
             print!(rt, " {depth}")?;
@@ -84,10 +81,8 @@ fn ranges(rt: &impl Print, map: &Map) -> io::Result<()> {
     if let Some(range) = map.range(5) {
         println!(
             rt,
-            "partition 5 in {}: 0x{:08X} to 0x{:08X}",
-            Braced(map),
-            range.first,
-            range.last
+            "partition 5 in {map}: 0x{:08X} to 0x{:08X}",
+            range.first, range.last
         )?;
     }
     let before = map.partition_for(0x9FFF_FFFF);
@@ -100,33 +95,18 @@ fn ranges(rt: &impl Print, map: &Map) -> io::Result<()> {
 
 /// Numbers that are no partition of the map.
 fn outside(rt: &impl Print, map: &Map) -> io::Result<()> {
-    println!(
-        rt,
-        "4 has a depth in {}: {}",
-        Braced(map),
-        map.depth(4).is_some()
-    )?;
-    println!(
-        rt,
-        "600 has a range in {}: {}",
-        Braced(map),
-        map.range(600).is_some()
-    )?;
-    println!(rt, "512 is in {}: {}", Braced(map), map.has(512))
+    println!(rt, "4 has a depth in {map}: {}", map.depth(4).is_some())?;
+    println!(rt, "600 has a range in {map}: {}", map.range(600).is_some())?;
+    println!(rt, "512 is in {map}: {}", map.has(512))
 }
 
 fn fillings(rt: &impl Print) -> io::Result<()> {
-    println!(rt, "{{6}} fills up to{}", Spaced(&filled(&[6])))?;
+    println!(rt, "{{6}} fills up to {}", filled(&[6]))?;
     let mut map = filled(&[2]);
     let other = filled(&[5]);
-    println!(
-        rt,
-        "{{2}} fills up to{}, {{5}} fills up to{}",
-        Spaced(&map),
-        Spaced(&other)
-    )?;
+    println!(rt, "{{2}} fills up to {map}, {{5}} fills up to {other}")?;
     map.join(&other);
-    println!(rt, "they join to{}, {} partitions", Spaced(&map), map.len())
+    println!(rt, "they join to {map}, {} partitions", map.len())
 }
 
 fn servers(rt: &impl Print) -> io::Result<()> {

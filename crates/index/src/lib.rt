@@ -9,6 +9,7 @@ mod settings;
 mod words;
 
 pub use map::Map;
+pub use maps::MapDisplay;
 pub use partition_set::PartitionSet;
 pub use range::PlacementRange;
 pub use servers::SettingsRefusalDisplay;

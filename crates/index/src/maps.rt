@@ -1,15 +1,20 @@
 ghost use mathlib.Core.Path.{_≡_};
 ghost use mathlib.Core.Bool.{_||_};
 ghost use Prim.Native.Nat.{ℕ};
+ghost use mathlib.Core.List.{_++_};
+ghost use lib.Chars.{codes};
 ghost use lib.Dec.{eqb};
 ghost use Rattle.index.specs.Numbers.{size};
 ghost use Rattle.index.specs.Maps.{IsMap, Fills, filled};
 ghost use Rattle.index.specs.Ranges.{part-for, Alone};
-ghost use Rattle.index.specs.Values.{has, members, depth-of, range-of};
+ghost use Rattle.std.specs.Written.{Prints};
+ghost use Rattle.std.specs.declared.option.Option.the-variants.{Some};
+ghost use Rattle.index.specs.Values.{has, members, depth-of, range-of, listed};
 use crate::map::Map;
 use crate::partition_set::PartitionSet;
 use crate::range::PlacementRange;
 use crate::words;
+use std::fmt;
 
 impl Map {
     /// The map with partition 0 alone.
@@ -82,6 +87,28 @@ impl Map {
     {
         words::walk(&self.words, placement)
     }
+}
+
+/// The partitions in decimal and rising, with a space between them. The first is 0, which every map has.
+pub impl fmt::Display for Map as MapDisplay {
+    ghost shown = { λ map. Some (codes "0" ++ listed (has map) 511) };
+
+    fn fmt<W: fmt::Write>(&self, f: &mut fmt::Formatter<W>) -> fmt::Result {
+        write_partitions(self, f)
+    }
+}
+
+// Writes 0, and the other partitions each behind a space.
+fn write_partitions<W: fmt::Write>(map: &Map, f: &mut fmt::Formatter<W>) -> fmt::Result
+    ensures { λ r. ⌜ Prints (W·Write .took) (now (f .entry)) r (codes "0" ++ listed (has (now (map .entry))) 511) (now (f .exit)) ⌝ }
+{
+    f.write_str("0")?;
+    for p in 1..512 {
+        if map.has(p) {
+            write!(f, " {p}")?;
+        }
+    }
+    Ok(())
 }
 
 // The union of two maps.

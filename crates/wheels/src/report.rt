@@ -4,6 +4,7 @@ use crate::numbers::PARTITIONS;
 use crate::quoted::Quoted;
 use crate::quoted::QuotedDisplay;
 use index::Map;
+use index::MapDisplay;
 use index::Settings;
 use names::NameRefusalDisplay;
 use names::shorten;
@@ -24,8 +25,7 @@ pub(crate) fn report_setup(rt: &impl Print, settings: &Settings, map: &Map) -> i
         rt,
         "settings: {servers}, {partitions} per server, threshold {threshold}"
     )?;
-    let partitions = Partitions(map);
-    println!(rt, "map:{partitions}\n")
+    println!(rt, "map: {map}\n")
 }
 
 /// Prints the raw name, and its short form with where its placements belong, or why it is refused.
@@ -60,20 +60,5 @@ impl fmt::Display for Counted as CountedDisplay {
         let Counted(count, word) = *self;
         let plural = if count == 1 { "" } else { "s" };
         write!(f, "{count} {word}{plural}")
-    }
-}
-
-/// The partitions of a map in rising order, each after a space.
-#[derive(Clone, Copy)]
-struct Partitions<'a>(&'a Map);
-
-impl fmt::Display for Partitions<'_> as PartitionsDisplay {
-    fn fmt<W: fmt::Write>(&self, f: &mut fmt::Formatter<W>) -> fmt::Result {
-        for p in 0..PARTITIONS {
-            if self.0.has(p) {
-                write!(f, " {p}")?;
-            }
-        }
-        Ok(())
     }
 }
