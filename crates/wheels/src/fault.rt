@@ -1,4 +1,5 @@
 ghost use mathlib.Core.Path.{_≡_};
+ghost use Rattle.wheels.specs.Problems.{problem-words};
 use crate::quoted::Quoted;
 use crate::quoted::QuotedDisplay;
 use std::fmt;
@@ -25,20 +26,18 @@ impl Problem {
             problem: self,
         }
     }
-}
 
-impl fmt::Display for Problem as ProblemDisplay {
-    fn fmt<W: fmt::Write>(&self, f: &mut fmt::Formatter<W>) -> fmt::Result {
-        f.write_str(
-            match self {
-                Problem::NoCommand => "is no command",
-                Problem::Missing => "is missing",
-                Problem::TooMany => "is one argument too many",
-                Problem::NoNumber => "is no decimal number",
-                Problem::TooLarge => "has more than 64 bits",
-                Problem::NoPartition => "is no partition: those are 0 to 511",
-            },
-        )
+    fn words(self) -> &'static str
+        ensures { λ r. ⌜ now r ≡ problem-words self ⌝ }
+    {
+        match self {
+            Problem::NoCommand => "is no command",
+            Problem::Missing => "is missing",
+            Problem::TooMany => "is one argument too many",
+            Problem::NoNumber => "is no decimal number",
+            Problem::TooLarge => "has more than 64 bits",
+            Problem::NoPartition => "is no partition: those are 0 to 511",
+        }
     }
 }
 
@@ -51,7 +50,7 @@ pub(crate) struct Fault<'a> {
 
 pub(crate) impl fmt::Display for Fault<'_> as FaultDisplay {
     fn fmt<W: fmt::Write>(&self, f: &mut fmt::Formatter<W>) -> fmt::Result {
-        let problem = self.problem;
+        let problem = self.problem.words();
         write!(f, "{} {problem}", Quoted(self.word.as_bytes()))
     }
 }

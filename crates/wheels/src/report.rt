@@ -1,3 +1,8 @@
+ghost use mathlib.Core.Path.{_≡_};
+ghost use mathlib.Core.Bool.{cond};
+ghost use mathlib.Core.List.{[]};
+ghost use lib.Chars.{codes};
+ghost use lib.Dec.{eqb};
 use crate::location::Location;
 use crate::location::LocationDisplay;
 use crate::numbers::PARTITIONS;
@@ -13,17 +18,18 @@ use placement::ByPrefix;
 use placement::DigestPlacement;
 use placement::Placement;
 use placement::PrefixPlacement;
-use std::fmt;
 use std::io;
 
 /// Prints the settings and the map, and an empty line.
 pub(crate) fn report_setup(rt: &impl Print, settings: &Settings, map: &Map) -> io::Result<()> {
-    let servers = Counted(settings.servers(), "server");
-    let partitions = Counted(settings.per_server(), "partition");
-    let threshold = settings.threshold();
+    let servers = settings.servers();
+    let partitions = settings.per_server();
     println!(
         rt,
-        "settings: {servers}, {partitions} per server, threshold {threshold}"
+        "settings: {servers} server{}, {partitions} partition{} per server, threshold {}",
+        ending(servers),
+        ending(partitions),
+        settings.threshold()
     )?;
     println!(rt, "map: {map}\n")
 }
@@ -51,14 +57,9 @@ pub(crate) fn report(
     println!(rt, "  prefix placement {prefix}")
 }
 
-/// So many of what the word names.
-#[derive(Clone, Copy)]
-struct Counted(u8, &'static str);
-
-impl fmt::Display for Counted as CountedDisplay {
-    fn fmt<W: fmt::Write>(&self, f: &mut fmt::Formatter<W>) -> fmt::Result {
-        let Counted(count, word) = *self;
-        let plural = if count == 1 { "" } else { "s" };
-        write!(f, "{count} {word}{plural}")
-    }
+/// The ending of a word for so many.
+fn ending(count: u8) -> &'static str
+    ensures { λ r. ⌜ now r ≡ cond (eqb count 1) [] (codes "s") ⌝ }
+{
+    if count == 1 { "" } else { "s" }
 }
