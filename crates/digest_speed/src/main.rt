@@ -32,25 +32,56 @@ fn time(rt: &LibcRuntime, message: &mut [u8], times: u32) -> io::Result<u64> {
     Ok(seconds.wrapping_add(u64::from(spent.subsec_nanos())))
 }
 
-// The least time of 200 runs, each short enough to end before the system gives the processor to others.
-fn least(rt: &LibcRuntime, message: &mut [u8], times: u32) -> io::Result<u64> {
-    let mut best = u64::MAX;
-    for _ in 0..200 {
-        best = best.min(time(rt, message, times)?);
+const RUNS: u64 = 200;
+
+// What runs of the same work took, in nanoseconds.
+#[derive(Clone, Copy)]
+struct Spent {
+    least: u64,
+    mean: u64,
+}
+
+// The least and the mean time of the runs.
+fn repeat(rt: &LibcRuntime, message: &mut [u8], times: u32) -> io::Result<Spent> {
+    let mut least = u64::MAX;
+    let mut total = 0u64;
+    for _ in 0..RUNS {
+        let run = time(rt, message, times)?;
+        least = least.min(run);
+        total = total.saturating_add(run);
     }
-    Ok(best)
+    Ok(Spent {
+        least,
+        mean: total / RUNS,
+    })
+}
+
+// The rate at which 1 MiB is digested in so many nanoseconds; 0 where the clock did not move.
+fn rate(nanoseconds: u64) -> u64 {
+    if nanoseconds > 0 {
+        1_048_576_000 / nanoseconds
+    } else {
+        0
+    }
 }
 
 fn measure(rt: &LibcRuntime) -> Result<(), AnyError> {
     let mut short = [0u8; 8];
-    let each = least(rt, &mut short, 10_000)? / 10_000;
-    println!(rt, "8 bytes: {each} ns a message")?;
+    let each = repeat(rt, &mut short, 10_000)?;
+    println!(
+        rt,
+        "8 bytes: mean {} ns, least {} ns",
+        each.mean / 10_000,
+        each.least / 10_000
+    )?;
     let mut long = vec![in rt.alloc(); 0u8; 1_048_576]?;
-    let spent = least(rt, &mut long, 1)?;
-    if spent > 0 {
-        let rate = 1_048_576_000 / spent;
-        println!(rt, "1 MiB: {rate} MB/s")?;
-    }
+    let whole = repeat(rt, &mut long, 1)?;
+    println!(
+        rt,
+        "1 MiB: mean {} MB/s, best {} MB/s",
+        rate(whole.mean),
+        rate(whole.least)
+    )?;
     Ok(())
 }
 

@@ -392,7 +392,7 @@ fn padded_blocks(message: &[u8], t: &Table, words: Words) -> Words
 pub fn md5(message: &[u8]) -> [u8; 16]
     ensures { λ r. ⌜ r ≡ digest (now (message .entry)) ⌝ }
 {
-    // A copy, so that T[i] is read from memory: the compiler adds a constant last in each operation, which is a fifth slower.
+    // A copy, so that T[i] is read from memory: the compiler adds a constant last in each operation, which is about a fifth slower.
     let t = SINES;
     output_of(padded_blocks(message, &t, whole_blocks(message, &t)))
 }

@@ -85,7 +85,7 @@ impl Request {
 
 /// The number that a word writes.
 fn number(word: &str) -> Result<u64, Fault<'_>>
-    ensures { λ r. ⌜ elim r [ Ok n ↦ number-reading (now (word .entry)) ≡ Ok n | Err fault ↦ number-reading (now (word .entry)) ≡ Err (fault .problem) ] ⌝ }
+    ensures { λ r. ⌜ elim r [ Ok n ↦ number-reading (now (word .entry)) ≡ Ok n | Err fault ↦ (number-reading (now (word .entry)) ≡ Err (fault .problem)) × (now (fault .word) ≡ now (word .entry)) ] ⌝ }
 {
     match read_number(word) {
         Ok(n) => Ok(n),
