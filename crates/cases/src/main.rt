@@ -1,4 +1,6 @@
 // Worked cases of names, maps, servers and settings, and the test suite of RFC 1321. The file `stdout` has what each must give.
+#![tactic(auto)]
+
 mod display;
 
 use display::Digest;

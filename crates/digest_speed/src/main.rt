@@ -1,4 +1,6 @@
 // Prints the digest of a million times the letter a; with an argument, how fast `md5` is on messages of 8 bytes and of 1 MiB.
+#![tactic(auto)]
+
 use placement::md5;
 use std::time::Instant;
 use std::{env, io};

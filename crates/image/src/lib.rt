@@ -1,4 +1,5 @@
 // The packed image: a store in the caller's buffer, as records one after the other.
+#![tactic(auto)]
 
 mod bytes;
 mod cause;

@@ -1,5 +1,7 @@
 // Partitions of one directory, after GIGA+: which partition numbers make a map, which placements each partition has, and which server
 // holds it.
+#![tactic(auto)]
+
 mod map;
 mod maps;
 mod partition_set;

@@ -1,4 +1,5 @@
 // Sensor names: the classes of their bytes, and their short forms.
+#![tactic(auto)]
 
 mod byte_class;
 mod name_refusal;

@@ -1,4 +1,6 @@
 // Placements: fixed functions from byte strings to numbers of 32 bits, and the MD5 message digest.
+#![tactic(auto)]
+
 ghost use Rattle.std.specs.Prelude.{◌≡◌, ℕ, ◌^◌, ◌<◌, List, slice_index};
 ghost use Rattle.placement.specs.Placements.{leading, digest_placement, prefix_placement, leading_small};
 ghost use Rattle.placement.specs.Rfc1321.{digest};

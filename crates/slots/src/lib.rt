@@ -1,4 +1,6 @@
 // A store in slots that the caller lends. Its entries lie in chains by key and by rank, so that each call but clear looks at few of them.
+#![tactic(auto)]
+
 ghost use Rattle.std.specs.Prelude.{◌≡◌, []};
 ghost use Rattle.names.specs.Names.{class};
 ghost use Rattle.store.specs.Calls.{put_answer, PutLeaves, TakeLeaves, move_answer, MoveLeaves};

@@ -1,4 +1,6 @@
 // What a store is: a set of entries under a capacity, and the calls on it.
+#![tactic(auto)]
+
 ghost use Rattle.std.specs.Prelude.{◌≡◌, ℕ, ◌≤◌, true, List, [], length};
 ghost use Rattle.std.specs.List.{slice_get};
 ghost use Rattle.names.specs.Names.{class};

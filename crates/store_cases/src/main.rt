@@ -1,4 +1,6 @@
 // The calls of a store, over the slot table and the packed image alike. The file `stdout` has what each must answer, worked out by hand.
+#![tactic(auto)]
+
 mod calls;
 mod limits;
 

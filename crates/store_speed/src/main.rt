@@ -1,4 +1,6 @@
 // Measures the calls of the stores at several numbers of entries.
+#![tactic(auto)]
+
 mod load;
 mod measure;
 

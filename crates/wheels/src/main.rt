@@ -1,4 +1,6 @@
 // Places sensor names: the short form of each, its two placements, and where each placement belongs in a map. Says what a packed image holds.
+#![tactic(auto)]
+
 mod command;
 mod fault;
 mod image_report;

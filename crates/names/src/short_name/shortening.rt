@@ -2,9 +2,9 @@ ghost use Rattle.std.specs.Prelude.{◌≡◌, true, length, IfOk, Decides};
 ghost use Rattle.std.specs.List.{list_all};
 ghost use Rattle.names.specs.Names.{class, is_kept, length_fits, is_short, shortened};
 ghost use Rattle.names.specs.Shortening.{answer, text};
-ghost use Rattle.std.specs.Cmp.Rules.{comparing};
-ghost use Rattle.std.proofs.Common.{rules, arith};
-ghost use Rattle.std.specs.Cmp as Keys;
+ghost use Rattle.std.specs.Cmp.{on_per, on_equiv, partial_equiv_from_equiv};
+ghost use Rattle.std.specs.Cmp.Lexicographic.{nat_list_eq_equiv};
+ghost use Rattle.std.specs.Str.{bytes_eq};
 
 use crate::byte_class::{ByteClass, class_of};
 use crate::name_refusal::NameRefusal;
@@ -28,7 +28,8 @@ impl ShortName {
 }
 
 fn same_bytes(a: &[u8], b: &[u8]) -> bool
-    ensures { Decides result (a.now ≡ b.now) }
+    ensures same { Decides result (a.now ≡ b.now) }
+    ensures value { result ≡ bytes_eq a.now b.now }
 {
     a == b
 }
@@ -53,9 +54,9 @@ fn all_kept(name: &[u8]) -> bool
 
 /// Names are the same where their short forms are equal.
 impl PartialEq for ShortName {
-    ghost equals = { λ a b r. Decides r (text a ≡ text b) };
+    ghost eq = { λ a b. bytes_eq (text a) (text b) };
 
-    ghost laws = { Keys.partial_equiv_from_equiv (first_of (Prim.search (comparing, rules), Prim.grind (arith, Self.row.coded.inj))) };
+    ghost laws = { on_per text (partial_equiv_from_equiv nat_list_eq_equiv) };
 
     fn eq(&self, other: &ShortName) -> bool {
         same_bytes(self.as_bytes(), other.as_bytes())
@@ -63,7 +64,7 @@ impl PartialEq for ShortName {
 }
 
 impl Eq for ShortName {
-    ghost laws = { first_of (Prim.search (comparing, rules), Prim.grind (arith, Self.row.coded.inj)) };
+    ghost laws = { on_equiv text nat_list_eq_equiv };
 }
 
 /// Whether a name is a short form.

@@ -5,15 +5,15 @@ use Rattle.image.specs.Promises.{entry_in, FirstEntry}
 use Rattle.image.proofs.Listing.{first_entry}
 use Rattle.image.proofs.records.split_record.Goals as goal
 
-pub slice-bounds-result-count : goal.slice-bounds-result-count
-slice-bounds-result-count c =
+pub slice_bounds-result-count : goal.slice_bounds-result-count
+slice_bounds-result-count c =
     let read = c.in-Ok.ensures in
-    omega (arith, c.record-length.ensures, (first_entry c.args.bytes.now (entry_in c.in-Ok.record) 0 read.0 read.1).2)
+    omega (arith, c.record_length.ensures, (first_entry c.args.bytes.now (entry_in c.in-Ok.record) 0 read.0 read.1).2)
 
-pub slice-bounds-result-start : goal.slice-bounds-result-start
-slice-bounds-result-start c =
+pub slice_bounds-result-start : goal.slice_bounds-result-start
+slice_bounds-result-start c =
     let read = c.in-Ok.ensures in
-    let fits : c.record-length.result ≤ length c.args.bytes.now = omega (arith, c.record-length.ensures, (first_entry c.args.bytes.now (entry_in c.in-Ok.record) 0 read.0 read.1).2) in
+    let fits : c.record_length.result ≤ length c.args.bytes.now = omega (arith, c.record_length.ensures, (first_entry c.args.bytes.now (entry_in c.in-Ok.record) 0 read.0 read.1).2) in
     search (rules, fits)
 
 pub returns-in-Ok : goal.returns-in-Ok
@@ -21,4 +21,4 @@ returns-in-Ok c =
     let bs = c.args.bytes.now in
     let read = c.in-Ok.ensures in
     let e = entry_in c.in-Ok.record in
-    subst (FirstEntry class bs e) (sym (take_rest bs c.record-length.result ∙ ap (λ k. drop k bs) c.record-length.ensures)) (first_entry bs e 0 read.0 read.1)
+    subst (FirstEntry class bs e) (sym (take_rest bs c.record_length.result ∙ ap (λ k. drop k bs) c.record_length.ensures)) (first_entry bs e 0 read.0 read.1)

@@ -14,4 +14,4 @@ loop-record-preserved c =
     let inv = c.loop-record.invariant in
     let rest = c.next.new.self.rest.now in
     let further = ap (λ l. length (encoded l)) first.0 ∙ length-append (record_bytes e) (encoded (listed class rest)) in
-    (omega (arith, inv.0, further, length_record e, c.record-length-end.ensures), omega (arith, inv.1, first.2, c.record-length-end.ensures))
+    (omega (arith, inv.0, further, length_record e, c.record_length-end.ensures), omega (arith, inv.1, first.2, c.record_length-end.ensures))

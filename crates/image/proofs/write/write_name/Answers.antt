@@ -9,7 +9,7 @@ returns c =
     let name = c.args.name.now in
     let n = length name in
     let long : length old ≡ 32 = omega arith in
-    let y : c.copy-from-slice.new.self ≡ name = c.copy-from-slice.ensures.after in
+    let y : c.copy_from_slice.new.self ≡ name = c.copy_from_slice.ensures.after in
     let z = c.fill.ensures.after (λ y e. e) in
     let zs : c.fill.new.self ≡ replicate (32 - n) 0 = z ∙ ap (λ k. replicate k 0) (ap (λ l. length (take (32 - n) (drop n (l ++ drop (n - 0) old)))) y ∙ name_room old name long c.requires) in
     (λ i. put_mid n (32 - n) (y i ++ drop (n - 0) old) (zs i)) ∙ name_put old name long c.requires

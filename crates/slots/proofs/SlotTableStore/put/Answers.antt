@@ -17,26 +17,26 @@ pub returns-then-self : goal.returns-then-self
 returns-then-self c =
     let t = c.args.self.now in
     let h = missed t _ _ _ c.place.ensures.is c.if-place-self.false in
-    record { gives = sym (put_full class (room_of t) (held t) _ _ (sym c.if-not-is-key.ensures) h.has (omega (arith, used_held t))) ∙ put_answer_perm class (room_of t) c.args.partition c.args.name.now (by_rank_perm t); leaves = refl; keeps = refl; spares = refl }
+    record { gives = sym (put_full class (room_of t) (held t) _ _ (sym c.if-not-is_key.ensures) h.has (omega (arith, used_held t))) ∙ put_answer_perm class (room_of t) c.args.partition c.args.name.now (by_rank_perm t); leaves = refl; keeps = refl; spares = refl }
 
 pub occupy-requires : goal.occupy-requires
 occupy-requires c =
     let t = c.args.self.now in
-    let l = key_long class c.args.partition c.args.name.now (sym c.if-not-is-key.ensures) in
+    let l = key_long class c.args.partition c.args.name.now (sym c.if-not-is_key.ensures) in
     record { place = (c.if-self.false, (t.few, omega (arith, c.holding-item.ensures.long, l))); linked = linked_of t; vacant = t.free t.used (omega arith) c.if-self.false }
 
-pub overflow-add-self-2 : goal.overflow-add-self-2
-overflow-add-self-2 c =
+pub overflow_add-self-2 : goal.overflow_add-self-2
+overflow_add-self-2 c =
     let t = c.args.self.now in
-    let k = key_low c.args.partition c.args.name.now (sym c.if-not-is-key.ensures) in
+    let k = key_low c.args.partition c.args.name.now (sym c.if-not-is_key.ensures) in
     omega (arith, t.counted c.args.partition (omega arith), count_le c.args.partition (held t), length_held t, t.within, t.few)
 
-pub invariant-of-self : goal.invariant-of-self
-invariant-of-self c =
+pub invariant_of-self : goal.invariant_of-self
+invariant_of-self c =
     let t = c.args.self.now in
     let x = entry_of c.args.partition c.args.name.now c.args.number in
     let h = missed t _ _ _ c.place.ensures.is c.if-place-self.false in
-    let z = put_made t c.occupy.new.self c.holding-item.result x c.occupy.ensures.linked c.occupy.ensures.now c.if-self.false c.holding-item.ensures.holds (sym c.if-not-is-key.ensures) h.has c.holding-item.ensures.rank in
+    let z = put_made t c.occupy.new.self c.holding-item.result x c.occupy.ensures.linked c.occupy.ensures.now c.if-self.false c.holding-item.ensures.holds (sym c.if-not-is_key.ensures) h.has c.holding-item.ensures.rank in
     (z.within, (z.few, (z.lawful, (z.keyheads, (z.keynexts, (z.rankheads, (z.ranknexts, (z.free, (z.wide, (z.ranks, (z.counted, tt)))))))))))
 
 pub returns : goal.returns
@@ -44,10 +44,10 @@ returns c =
     let t = c.args.self.now in
     let x = entry_of c.args.partition c.args.name.now c.args.number in
     let h = missed t _ _ _ c.place.ensures.is c.if-place-self.false in
-    let z = put_made t c.occupy.new.self c.holding-item.result x c.occupy.ensures.linked c.occupy.ensures.now c.if-self.false c.holding-item.ensures.holds (sym c.if-not-is-key.ensures) h.has c.holding-item.ensures.rank in
-    let p = added_perm t c.occupy.new.self c.holding-item.result x c.occupy.ensures.linked c.occupy.ensures.now c.if-self.false c.holding-item.ensures.holds (sym c.if-not-is-key.ensures) h.has c.holding-item.ensures.rank in
+    let z = put_made t c.occupy.new.self c.holding-item.result x c.occupy.ensures.linked c.occupy.ensures.now c.if-self.false c.holding-item.ensures.holds (sym c.if-not-is_key.ensures) h.has c.holding-item.ensures.rank in
+    let p = added_perm t c.occupy.new.self c.holding-item.result x c.occupy.ensures.linked c.occupy.ensures.now c.if-self.false c.holding-item.ensures.holds (sym c.if-not-is_key.ensures) h.has c.holding-item.ensures.rank in
     record {
-      gives = sym (put_added class (room_of t) (held t) _ _ (sym c.if-not-is-key.ensures) h.has (omega (arith, used_held t, c.if-self.false))) ∙ put_answer_perm class (room_of t) c.args.partition c.args.name.now (by_rank_perm t);
+      gives = sym (put_added class (room_of t) (held t) _ _ (sym c.if-not-is_key.ensures) h.has (omega (arith, used_held t, c.if-self.false))) ∙ put_answer_perm class (room_of t) c.args.partition c.args.name.now (by_rank_perm t);
       leaves = shuffled_from (then (keep x (perm_back (by_rank_perm t))) (then p (by_rank_perm z)));
       keeps = ap room_for (items_length t.lent.slots.now c.occupy.new.self.slots.now t.used c.holding-item.result c.occupy.ensures.now);
       spares = c.occupy.ensures.spares;

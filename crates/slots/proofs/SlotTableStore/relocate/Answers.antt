@@ -35,21 +35,21 @@ returns-then-i-self c =
 pub bounds-self-p : goal.bounds-self-p
 bounds-self-p c = low_part c.args.self.now _ _ _ c.place-i.ensures.is c.if-i-self.false
 
-pub overflow-sub-count : goal.overflow-sub-count
-overflow-sub-count c = some_count c.args.self.now _ _ _ c.place-i.ensures.is c.if-i-self.false c.index-self-i.result
+pub overflow_sub-count : goal.overflow_sub-count
+overflow_sub-count c = some_count c.args.self.now _ _ _ c.place-i.ensures.is c.if-i-self.false c.index-self-i.result
 
-pub offset-bounds-self-j : goal.offset-bounds-self-j
-offset-bounds-self-j c = let t = c.args.self.now in omega (arith, there t _ _ _ c.place-i.ensures.is c.if-i-self.false c.index-self-i.result c.at-rank-j.result c.at-rank-j.ensures.miss, t.within, t.few)
+pub offset_bounds-self-j : goal.offset_bounds-self-j
+offset_bounds-self-j c = let t = c.args.self.now in omega (arith, there t _ _ _ c.place-i.ensures.is c.if-i-self.false c.index-self-i.result c.at_rank-j.result c.at_rank-j.ensures.miss, t.within, t.few)
 
 pub bounds-self-j : goal.bounds-self-j
-bounds-self-j c = let t = c.args.self.now in omega (arith, there t _ _ _ c.place-i.ensures.is c.if-i-self.false c.index-self-i.result c.at-rank-j.result c.at-rank-j.ensures.miss, t.within)
+bounds-self-j c = let t = c.args.self.now in omega (arith, there t _ _ _ c.place-i.ensures.is c.if-i-self.false c.index-self-i.result c.at_rank-j.result c.at_rank-j.ensures.miss, t.within)
 
 pub rewrite-requires : goal.rewrite-requires
 rewrite-requires c =
     let t = c.args.self.now in
-    let j = c.at-rank-j.result in
+    let j = c.at_rank-j.result in
     let d = c.index-self-j.result in
-    let hj = there t _ _ _ c.place-i.ensures.is c.if-i-self.false c.index-self-i.result j c.at-rank-j.ensures.miss in
+    let hj = there t _ _ _ c.place-i.ensures.is c.if-i-self.false c.index-self-i.result j c.at_rank-j.ensures.miss in
     let f = filled t j d hj in
     let l : j < length t.lent.slots.now = omega (arith, hj, t.within) in
     record { place = (l, (t.few, omega (arith, f, items_read (λ r. r.len) t.lent.slots.now j d l))); linked = linked_of t; filled = f }
@@ -59,12 +59,12 @@ rewrite-requires-2 c =
     let t = c.args.self.now in
     let ss = t.lent.slots.now in
     let i = c.place-i.result in
-    let j = c.at-rank-j.result in
+    let j = c.at_rank-j.result in
     let di = c.index-self-i.result in
     let dj = c.index-self-j.result in
     let h = c.if-i-self.false in
-    let hj = there t _ _ _ c.place-i.ensures.is h di j c.at-rank-j.ensures.miss in
-    let m = c.at-rank-j.ensures.hit hj in
+    let hj = there t _ _ _ c.place-i.ensures.is h di j c.at_rank-j.ensures.miss in
+    let m = c.at_rank-j.ensures.hit hj in
     let l : j < length ss = omega (arith, hj, t.within) in
     let li : i < length ss = omega (arith, h, t.within) in
     let f = filled₁ t i c.args.from c.args.name.now c.place-i.ensures.is h di j hj m.0 m.1 _ c.rewrite.new.self (sym (held_at t j dj blank hj)) (sym (items_read (λ r. r.partition) ss j dj l) ∙ m.0) (sym (items_read (λ r. r.rank) ss i di li)) c.rewrite.ensures.now (omega (arith, filled t j dj hj, items_read (λ r. r.len) ss j dj l)) in
@@ -74,30 +74,30 @@ rewrite-requires-2 c =
 pub bounds-self-p-2 : goal.bounds-self-p-2
 bounds-self-p-2 c = low_part c.args.self.now _ _ _ c.place-i.ensures.is c.if-i-self.false
 
-pub overflow-add-self : goal.overflow-add-self
-overflow-add-self c =
+pub overflow_add-self : goal.overflow_add-self
+overflow_add-self c =
     let t = c.args.self.now in
     let i = c.place-i.result in
     let d = c.index-self-i.result in
-    let k = out_counts t i _ _ c.place-i.ensures.is c.if-i-self.false d c.args.to (omega (arith, c.if-to-gt-LAST-PARTITION.false)) in
+    let k = out_counts t i _ _ c.place-i.ensures.is c.if-i-self.false d c.args.to (omega (arith, c.if-to-gt-LAST_PARTITION.false)) in
     let x = get_or (held t) i blank in
     omega (arith, k, count_le c.args.to (held t), count_perm c.args.to (out t i _ _ c.place-i.ensures.is c.if-i-self.false d), count_cons c.args.to x (remove (held t) i), length_held t, t.within, t.few)
 
-pub invariant-of-self : goal.invariant-of-self
-invariant-of-self c =
+pub invariant_of-self : goal.invariant_of-self
+invariant_of-self c =
     let t = c.args.self.now in
     let ss = t.lent.slots.now in
     let i = c.place-i.result in
-    let j = c.at-rank-j.result in
+    let j = c.at_rank-j.result in
     let di = c.index-self-i.result in
     let dj = c.index-self-j.result in
     let h = c.if-i-self.false in
-    let hj = there t _ _ _ c.place-i.ensures.is h di j c.at-rank-j.ensures.miss in
-    let m = c.at-rank-j.ensures.hit hj in
+    let hj = there t _ _ _ c.place-i.ensures.is h di j c.at_rank-j.ensures.miss in
+    let m = c.at_rank-j.ensures.hit hj in
     let l : j < length ss = omega (arith, hj, t.within) in
     let li : i < length ss = omega (arith, h, t.within) in
     let f = missed t _ _ _ c.place.ensures.is c.if-place-self.false in
-    let z = move_made t i c.args.from c.args.name.now c.place-i.ensures.is h di j hj m.0 m.1 _ c.rewrite.new.self (sym (held_at t j dj blank hj)) (sym (items_read (λ r. r.partition) ss j dj l) ∙ m.0) (sym (items_read (λ r. r.rank) ss i di li)) c.rewrite.ensures.now c.rewrite-2.new.self c.rewrite-2.ensures.linked c.args.to _ refl refl refl c.if-to-gt-LAST-PARTITION.false f.has c.rewrite-2.ensures.now in
+    let z = move_made t i c.args.from c.args.name.now c.place-i.ensures.is h di j hj m.0 m.1 _ c.rewrite.new.self (sym (held_at t j dj blank hj)) (sym (items_read (λ r. r.partition) ss j dj l) ∙ m.0) (sym (items_read (λ r. r.rank) ss i di li)) c.rewrite.ensures.now c.rewrite-2.new.self c.rewrite-2.ensures.linked c.args.to _ refl refl refl c.if-to-gt-LAST_PARTITION.false f.has c.rewrite-2.ensures.now in
     (z.within, (z.few, (z.lawful, (z.keyheads, (z.keynexts, (z.rankheads, (z.ranknexts, (z.free, (z.wide, (z.ranks, (z.counted, tt)))))))))))
 
 pub returns : goal.returns
@@ -105,22 +105,22 @@ returns c =
     let t = c.args.self.now in
     let ss = t.lent.slots.now in
     let i = c.place-i.result in
-    let j = c.at-rank-j.result in
+    let j = c.at_rank-j.result in
     let di = c.index-self-i.result in
     let dj = c.index-self-j.result in
     let h = c.if-i-self.false in
-    let hj = there t _ _ _ c.place-i.ensures.is h di j c.at-rank-j.ensures.miss in
-    let m = c.at-rank-j.ensures.hit hj in
+    let hj = there t _ _ _ c.place-i.ensures.is h di j c.at_rank-j.ensures.miss in
+    let m = c.at_rank-j.ensures.hit hj in
     let l : j < length ss = omega (arith, hj, t.within) in
     let li : i < length ss = omega (arith, h, t.within) in
     let f = missed t _ _ _ c.place.ensures.is c.if-place-self.false in
-    let z = move_made t i c.args.from c.args.name.now c.place-i.ensures.is h di j hj m.0 m.1 _ c.rewrite.new.self (sym (held_at t j dj blank hj)) (sym (items_read (λ r. r.partition) ss j dj l) ∙ m.0) (sym (items_read (λ r. r.rank) ss i di li)) c.rewrite.ensures.now c.rewrite-2.new.self c.rewrite-2.ensures.linked c.args.to _ refl refl refl c.if-to-gt-LAST-PARTITION.false f.has c.rewrite-2.ensures.now in
+    let z = move_made t i c.args.from c.args.name.now c.place-i.ensures.is h di j hj m.0 m.1 _ c.rewrite.new.self (sym (held_at t j dj blank hj)) (sym (items_read (λ r. r.partition) ss j dj l) ∙ m.0) (sym (items_read (λ r. r.rank) ss i di li)) c.rewrite.ensures.now c.rewrite-2.new.self c.rewrite-2.ensures.linked c.args.to _ refl refl refl c.if-to-gt-LAST_PARTITION.false f.has c.rewrite-2.ensures.now in
     let eq = same t i c.args.from c.args.name.now c.place-i.ensures.is h di j hj m.0 m.1 _ c.rewrite.new.self (sym (held_at t j dj blank hj)) (sym (items_read (λ r. r.partition) ss j dj l) ∙ m.0) (sym (items_read (λ r. r.rank) ss i di li)) c.rewrite.ensures.now in
     let x : Option ℕ → Entry = λ o. entry_of c.args.to c.args.name.now (number_in o) in
     let g = perm_found class c.args.from c.args.name.now (by_rank_perm t) t.lawful in
     let p = then (keep (x (found (held t) c.args.from c.args.name.now)) (perm_without class c.args.from c.args.name.now (perm_back (by_rank_perm t)) (lawful t))) (then (moved_leaves t i _ _ c.place-i.ensures.is h di (items c.rewrite.new.self.slots.now) eq c.args.to _ refl (items c.rewrite-2.new.self.slots.now) c.rewrite-2.ensures.now) (by_rank_perm z)) in
     record {
-      gives = sym (move_moved (held t) c.args.from c.args.to c.args.name.now (present t _ _ _ c.place-i.ensures.is h) c.if-to-gt-LAST-PARTITION.false f.has) ∙ move_answer_perm c.args.from c.args.to c.args.name.now (by_rank_perm t);
+      gives = sym (move_moved (held t) c.args.from c.args.to c.args.name.now (present t _ _ _ c.place-i.ensures.is h) c.if-to-gt-LAST_PARTITION.false f.has) ∙ move_answer_perm c.args.from c.args.to c.args.name.now (by_rank_perm t);
       leaves = shuffled_from (subst (λ (o : Option ℕ). Perm (x o ∷ Rattle.store.specs.Entries.without (entries_by_rank t) c.args.from c.args.name.now) (entries_by_rank z)) g p);
       keeps = ap room_for (items_length c.rewrite.new.self.slots.now c.rewrite-2.new.self.slots.now i _ c.rewrite-2.ensures.now ∙ items_length ss c.rewrite.new.self.slots.now j _ c.rewrite.ensures.now);
       spares = c.rewrite-2.ensures.spares ∙ c.rewrite.ensures.spares;

@@ -15,21 +15,21 @@ use Rattle.slots.proofs.SlotTableStore.take.Goals as goal
 pub bounds-self-p : goal.bounds-self-p
 bounds-self-p c = low_part c.args.self.now _ _ _ c.place-i.ensures.is c.if-i-self.false
 
-pub overflow-sub-count : goal.overflow-sub-count
-overflow-sub-count c = some_count c.args.self.now _ _ _ c.place-i.ensures.is c.if-i-self.false c.index-self-i.result
+pub overflow_sub-count : goal.overflow_sub-count
+overflow_sub-count c = some_count c.args.self.now _ _ _ c.place-i.ensures.is c.if-i-self.false c.index-self-i.result
 
-pub offset-bounds-self-j : goal.offset-bounds-self-j
-offset-bounds-self-j c = let t = c.args.self.now in omega (arith, there t _ _ _ c.place-i.ensures.is c.if-i-self.false c.index-self-i.result c.at-rank-j.result c.at-rank-j.ensures.miss, t.within, t.few)
+pub offset_bounds-self-j : goal.offset_bounds-self-j
+offset_bounds-self-j c = let t = c.args.self.now in omega (arith, there t _ _ _ c.place-i.ensures.is c.if-i-self.false c.index-self-i.result c.at_rank-j.result c.at_rank-j.ensures.miss, t.within, t.few)
 
 pub bounds-self-j : goal.bounds-self-j
-bounds-self-j c = let t = c.args.self.now in omega (arith, there t _ _ _ c.place-i.ensures.is c.if-i-self.false c.index-self-i.result c.at-rank-j.result c.at-rank-j.ensures.miss, t.within)
+bounds-self-j c = let t = c.args.self.now in omega (arith, there t _ _ _ c.place-i.ensures.is c.if-i-self.false c.index-self-i.result c.at_rank-j.result c.at_rank-j.ensures.miss, t.within)
 
 pub rewrite-requires : goal.rewrite-requires
 rewrite-requires c =
     let t = c.args.self.now in
-    let j = c.at-rank-j.result in
+    let j = c.at_rank-j.result in
     let d = c.index-self-j.result in
-    let hj = there t _ _ _ c.place-i.ensures.is c.if-i-self.false c.index-self-i.result j c.at-rank-j.ensures.miss in
+    let hj = there t _ _ _ c.place-i.ensures.is c.if-i-self.false c.index-self-i.result j c.at_rank-j.ensures.miss in
     let f = filled t j d hj in
     let l : j < length t.lent.slots.now = omega (arith, hj, t.within) in
     record { place = (l, (t.few, omega (arith, f, items_read (λ r. r.len) t.lent.slots.now j d l))); linked = linked_of t; filled = f }
@@ -39,12 +39,12 @@ remove-requires c =
     let t = c.args.self.now in
     let ss = t.lent.slots.now in
     let i = c.place-i.result in
-    let j = c.at-rank-j.result in
+    let j = c.at_rank-j.result in
     let di = c.index-self-i.result in
     let dj = c.index-self-j.result in
     let h = c.if-i-self.false in
-    let hj = there t _ _ _ c.place-i.ensures.is h di j c.at-rank-j.ensures.miss in
-    let m = c.at-rank-j.ensures.hit hj in
+    let hj = there t _ _ _ c.place-i.ensures.is h di j c.at_rank-j.ensures.miss in
+    let m = c.at_rank-j.ensures.hit hj in
     let l : j < length ss = omega (arith, hj, t.within) in
     let li : i < length ss = omega (arith, h, t.within) in
     let f = filled₁ t _ _ _ c.place-i.ensures.is h di j hj m.0 m.1 _ c.rewrite.new.self (sym (held_at t j dj blank hj)) (sym (items_read (λ r. r.partition) ss j dj l) ∙ m.0) (sym (items_read (λ r. r.rank) ss i di li)) c.rewrite.ensures.now (omega (arith, filled t j dj hj, items_read (λ r. r.len) ss j dj l)) in
@@ -58,17 +58,17 @@ remove-requires c =
 pub bounds-self-p-2 : goal.bounds-self-p-2
 bounds-self-p-2 c = low_part c.args.self.now _ _ _ c.place-i.ensures.is c.if-i-self.false
 
-pub invariant-of-self : goal.invariant-of-self
-invariant-of-self c =
+pub invariant_of-self : goal.invariant_of-self
+invariant_of-self c =
     let t = c.args.self.now in
     let ss = t.lent.slots.now in
     let i = c.place-i.result in
-    let j = c.at-rank-j.result in
+    let j = c.at_rank-j.result in
     let di = c.index-self-i.result in
     let dj = c.index-self-j.result in
     let h = c.if-i-self.false in
-    let hj = there t _ _ _ c.place-i.ensures.is h di j c.at-rank-j.ensures.miss in
-    let m = c.at-rank-j.ensures.hit hj in
+    let hj = there t _ _ _ c.place-i.ensures.is h di j c.at_rank-j.ensures.miss in
+    let m = c.at_rank-j.ensures.hit hj in
     let l : j < length ss = omega (arith, hj, t.within) in
     let li : i < length ss = omega (arith, h, t.within) in
     let z = take_made t i c.args.partition c.args.name.now c.place-i.ensures.is h di j hj m.0 m.1 _ c.rewrite.new.self (sym (held_at t j dj blank hj)) (sym (items_read (λ r. r.partition) ss j dj l) ∙ m.0) (sym (items_read (λ r. r.rank) ss i di li)) c.rewrite.ensures.now c.remove.new.self c.remove.ensures.linked c.remove.ensures.size c.remove.ensures.vacant c.remove.ensures.others (c.remove.ensures.now di.item) in
@@ -79,12 +79,12 @@ returns c =
     let t = c.args.self.now in
     let ss = t.lent.slots.now in
     let i = c.place-i.result in
-    let j = c.at-rank-j.result in
+    let j = c.at_rank-j.result in
     let di = c.index-self-i.result in
     let dj = c.index-self-j.result in
     let h = c.if-i-self.false in
-    let hj = there t _ _ _ c.place-i.ensures.is h di j c.at-rank-j.ensures.miss in
-    let m = c.at-rank-j.ensures.hit hj in
+    let hj = there t _ _ _ c.place-i.ensures.is h di j c.at_rank-j.ensures.miss in
+    let m = c.at_rank-j.ensures.hit hj in
     let l : j < length ss = omega (arith, hj, t.within) in
     let li : i < length ss = omega (arith, h, t.within) in
     let z = take_made t i c.args.partition c.args.name.now c.place-i.ensures.is h di j hj m.0 m.1 _ c.rewrite.new.self (sym (held_at t j dj blank hj)) (sym (items_read (λ r. r.partition) ss j dj l) ∙ m.0) (sym (items_read (λ r. r.rank) ss i di li)) c.rewrite.ensures.now c.remove.new.self c.remove.ensures.linked c.remove.ensures.size c.remove.ensures.vacant c.remove.ensures.others (c.remove.ensures.now di.item) in

@@ -28,4 +28,4 @@ too_large word r e numeral reads is =
 
 pub returns-in-Err : goal.returns-in-Err
 returns-in-Err c =
-    sym (too_large c.args.word.now _ _ (sym c.if-not-is-numeral.ensures) c.parse.ensures.value.0 c.in-Err.is)
+    sym (too_large c.args.word.now _ _ (sym c.if-not-is_numeral.ensures) c.parse.ensures.value.0 c.in-Err.is)

@@ -11,25 +11,25 @@ use Rattle.wheels.proofs.quoted.write_byte.Goals as goal
 digit_text : (x d : ℕ) → d < 16 → x ≡ digit_glyph true d → encode x ≡ digit_glyph true d ∷ []
 digit_text x d h e = ap encode e ∙ encode_ascii (digit_glyph true d) (grind (arith, nat_tests))
 
-pub returns-then-is-plain : goal.returns-then-is-plain
-returns-then-is-plain g c plain ok =
-    has_written_of_eq g.W.Write.write_str_gives c.args.f.now _ _ c.write-char.new.self
-    (encode_ascii c.args.byte (c.requires c.if-is-plain.true) ∙ sym (cond-true c.args.is-plain _ _ c.if-is-plain.true))
-    (c.write-char.ensures.writes plain ok)
+pub returns-then-is_plain : goal.returns-then-is_plain
+returns-then-is_plain g c plain ok =
+    has_written_of_eq g.W.Write.write_str_gives c.args.f.now _ _ c.write_char.new.self
+    (encode_ascii c.args.byte (c.requires c.if-is_plain.true) ∙ sym (cond-true c.args.is_plain _ _ c.if-is_plain.true))
+    (c.write_char.ensures.writes plain ok)
 
 pub returns : goal.returns
 returns g c plain ok =
     let took = g.W.Write.write_str_gives in
     let byte = c.args.byte in
-    let mark = c.in-ok-write-char.ensures.writes plain refl in
-    let high = c.in-ok-write-char-2.ensures.writes mark.plain refl in
-    let low = c.write-char-4.ensures.writes high.plain ok in
+    let mark = c.in_ok-write_char.ensures.writes plain refl in
+    let high = c.in_ok-write_char-2.ensures.writes mark.plain refl in
+    let low = c.write_char-4.ensures.writes high.plain ok in
     let h : byte / 16 < 16 = omega arith in
     let l : byte % 16 < 16 = omega arith in
-    has_written_of_eq took c.args.f.now _ _ c.write-char-4.new.self
-    (ap (λ (t : List ℕ). t ++ encode c.hex-digit.result ++ encode c.hex-digit-2.result) (encode_ascii 37 (omega arith))
-    ∙ ap (λ (t : List ℕ). 37 ∷ (t ++ encode c.hex-digit-2.result)) (digit_text c.hex-digit.result (byte / 16) h c.hex-digit.ensures)
-    ∙ ap (λ (t : List ℕ). 37 ∷ digit_glyph true (byte / 16) ∷ t) (digit_text c.hex-digit-2.result (byte % 16) l c.hex-digit-2.ensures)
-    ∙ sym (cond-false c.args.is-plain _ _ c.if-is-plain.false))
-    (has_written_append took c.args.f.now _ c.write-char-3.new.self _ c.write-char-4.new.self
-    (has_written_append took c.args.f.now _ c.write-char-2.new.self _ c.write-char-3.new.self mark high) low)
+    has_written_of_eq took c.args.f.now _ _ c.write_char-4.new.self
+    (ap (λ (t : List ℕ). t ++ encode c.hex_digit.result ++ encode c.hex_digit-2.result) (encode_ascii 37 (omega arith))
+    ∙ ap (λ (t : List ℕ). 37 ∷ (t ++ encode c.hex_digit-2.result)) (digit_text c.hex_digit.result (byte / 16) h c.hex_digit.ensures)
+    ∙ ap (λ (t : List ℕ). 37 ∷ digit_glyph true (byte / 16) ∷ t) (digit_text c.hex_digit-2.result (byte % 16) l c.hex_digit-2.ensures)
+    ∙ sym (cond-false c.args.is_plain _ _ c.if-is_plain.false))
+    (has_written_append took c.args.f.now _ c.write_char-3.new.self _ c.write_char-4.new.self
+    (has_written_append took c.args.f.now _ c.write_char-2.new.self _ c.write_char-3.new.self mark high) low)

@@ -18,9 +18,9 @@ loop-byte-preserved g c plain =
     let i = c.loop-byte.byte-index in
     let byte = get_or bytes i 0 in
     let so_far = c.loop-byte.invariant plain in
-    has_written_of_eq took c.args.f.now _ _ c.write-byte.new.f
-    (ap (λ (b : Bool). escaped style (take i bytes) ++ byte_text b byte) c.stands-as-itself.ensures.value ∙ escaped_more style bytes i c.loop-byte-test.true)
-    (has_written_append took c.args.f.now _ c.loop-byte.f _ c.write-byte.new.f so_far (c.in-ok-write-byte.ensures so_far.plain refl))
+    has_written_of_eq took c.args.f.now _ _ c.write_byte.new.f
+    (ap (λ (b : Bool). escaped style (take i bytes) ++ byte_text b byte) c.stands_as_itself.ensures.value ∙ escaped_more style bytes i c.loop-byte-test.true)
+    (has_written_append took c.args.f.now _ c.loop-byte.f _ c.write_byte.new.f so_far (c.in_ok-write_byte.ensures so_far.plain refl))
 
 pub returns : goal.returns
 returns g c plain ok =

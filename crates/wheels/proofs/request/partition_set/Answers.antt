@@ -8,7 +8,7 @@ use Rattle.wheels.proofs.request.partition_set.Goals as goal
 
 pub loop-word-preserved : goal.loop-word-preserved
 loop-word-preserved c =
-    let reads : partition_reading c.in-Some.word.now ≡ Ok c.in-Ok.partition = sym c.read-partition.ensures ∙ c.in-Ok.is in
+    let reads : partition_reading c.in-Some.word.now ≡ Ok c.in-Ok.partition = sym c.read_partition.ensures ∙ c.in-Ok.is in
     let words : List (List ℕ) = map (λ (w : Bor (List ℕ)). w.now) c.loop-word.yielded in
     rw (map-append (λ (w : Bor (List ℕ)). w.now) c.loop-word.yielded (c.in-Some.word ∷ [])) (
       all_write_more words c.in-Some.word.now _ reads c.loop-word.invariant.0,
@@ -17,8 +17,8 @@ loop-word-preserved c =
 
 pub returns : goal.returns
 returns c =
-    let exit = run_of_exit _ _ _ _ c.loop-word.yielded-by _ c.in-None.ensures.steps in
-    let cut = (c.split-word-items.ensures.runs exit.0 (seen _) (exit.1 ∙ c.into-iter-word-iterator.ensures.into-iter-gives)).2 (lit< tt) ((λ q e. e), (λ w o h. h)) in (
+    let exit = run_of_exit _ _ _ _ c.loop-word.yielded_by _ c.in-None.ensures.steps in
+    let cut = (c.split-word-items.ensures.runs exit.0 (seen _) (exit.1 ∙ c.into_iter-word-iterator.ensures.into_iter-gives)).2 (lit< tt) ((λ q e. e), (λ w o h. h)) in (
       map (λ w. w.now) c.loop-word.yielded,
       cut.0.2 exit.2 ∙ ap (λ (xs : List (Bor (List ℕ))). join_with_byte 44 (map (λ w. w.now) xs)) exit.3.0,
       c.loop-word.invariant.0,

@@ -4,19 +4,19 @@ use Rattle.image.specs.Format.{encoded}
 use Rattle.image.specs.Held.{held, all_bytes}
 use Rattle.image.proofs.Changes.{Changed, held_packed, encoded_fits, image_cleared}
 use Rattle.image.proofs.packed_store.PackedImageStore.clear.Goals as goal
-use Rattle.image.proofs.packed_store.PackedImageStore.clear.Goals.{After-end-from-end, After-wipe}
+use Rattle.image.proofs.packed_store.PackedImageStore.clear.Goals.{After-end_from-end, After-wipe}
 
-end : (c : goal.After-end-from-end) → c.end-from-end.result ≡ length (encoded (held class c.args.self.now))
-end c = c.end-from-end.ensures ∙ zero-add _
+end : (c : goal.After-end_from-end) → c.end_from-end.result ≡ length (encoded (held class c.args.self.now))
+end c = c.end_from-end.ensures ∙ zero-add _
 
 pub wipe-requires : goal.wipe-requires
-wipe-requires c = let s = c.args.self.now in omega (arith, end (goal.at.wipe-requires c).After-end-from-end, encoded_fits (all_bytes s) s.len s.within (held class s) (held_packed s), s.within)
+wipe-requires c = let s = c.args.self.now in omega (arith, end (goal.at.wipe-requires c).After-end_from-end, encoded_fits (all_bytes s) s.len s.within (held class s) (held_packed s), s.within)
 
 after : (c : goal.After-wipe) → Changed c.args.self.now.len (all_bytes c.args.self.now) c.wipe.new.self.image.now []
-after c = let s = c.args.self.now in image_cleared (all_bytes s) s.len s.within (held class s) (held_packed s) c.wipe.new.self.image.now c.end-from-end.result (end (goal.at.invariant-of-self c).After-end-from-end) c.wipe.ensures.after
+after c = let s = c.args.self.now in image_cleared (all_bytes s) s.len s.within (held class s) (held_packed s) c.wipe.new.self.image.now c.end_from-end.result (end (goal.at.invariant_of-self c).After-end_from-end) c.wipe.ensures.after
 
-pub invariant-of-self : goal.invariant-of-self
-invariant-of-self c = let k = (after c).image in (k.within, (c.args.self.now.few, (k.shape, (k.keys, (k.numbers, tt)))))
+pub invariant_of-self : goal.invariant_of-self
+invariant_of-self c = let k = (after c).image in (k.within, (c.args.self.now.few, (k.shape, (k.keys, (k.numbers, tt)))))
 
 pub returns : goal.returns
 returns c = let k = after (goal.at.returns c).After-wipe in record { empties = k.image.lists; keeps = refl; beyond = k.beyond; lends = c.wipe.ensures.same }

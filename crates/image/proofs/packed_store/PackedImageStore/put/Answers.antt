@@ -11,15 +11,15 @@ use Rattle.image.specs.Lawful.{used_encoded}
 use Rattle.image.proofs.Changes.{Changed, held_packed, encoded_fits, place_none, image_put}
 use Rattle.image.proofs.LawfulLists.{found_holds, lawful_push, packed_lawful}
 use Rattle.image.proofs.packed_store.PackedImageStore.put.Goals as goal
-use Rattle.image.proofs.packed_store.PackedImageStore.put.Goals.{Else-is-some, After-write}
+use Rattle.image.proofs.packed_store.PackedImageStore.put.Goals.{Else-is_some, After-write}
 
-pub returns-then-is-some : goal.returns-then-is-some
-returns-then-is-some c =
+pub returns-then-is_some : goal.returns-then-is_some
+returns-then-is_some c =
     let s = c.args.self.now in
     let p = c.args.partition in
     let n = c.args.name.now in
-    let there : holds (held class s) p n ≡ true = sym (found_holds (held class s) p n) ∙ ap is_some (sym c.look-at.ensures.number) ∙ sym c.if-is-some.ensures in
-    record { gives = sym (put_present class (room_of s) (held class s) p n (sym c.if-not-is-key.ensures) there); order = refl; leaves = refl; keeps = refl; beyond = refl; lends = refl }
+    let there : holds (held class s) p n ≡ true = sym (found_holds (held class s) p n) ∙ ap is_some (sym c.look-at.ensures.number) ∙ sym c.if-is_some.ensures in
+    record { gives = sym (put_present class (room_of s) (held class s) p n (sym c.if-not-is_key.ensures) there); order = refl; leaves = refl; keeps = refl; beyond = refl; lends = refl }
 
 -- no entry has the key, so the place is where the records end
 record End (at len : ℕ) (es : List Entry) (p : ℕ) (n : List ℕ) : Type 0 where
@@ -27,47 +27,47 @@ record End (at len : ℕ) (es : List Entry) (p : ℕ) (n : List ℕ) : Type 0 wh
   place : at ≡ length (encoded es)
   within : length (encoded es) ≤ len
 
-end : (c : goal.Else-is-some) → End c.look-at.result.0 c.args.self.now.len (held class c.args.self.now) c.args.partition c.args.name.now
+end : (c : goal.Else-is_some) → End c.look-at.result.0 c.args.self.now.len (held class c.args.self.now) c.args.partition c.args.name.now
 end c =
     let s = c.args.self.now in
     let es = held class s in
     let p = c.args.partition in
     let n = c.args.name.now in
-    let none : holds es p n ≡ false = sym (found_holds es p n) ∙ ap is_some (sym c.look-at.ensures.number) ∙ sym c.if-is-some.ensures in
+    let none : holds es p n ≡ false = sym (found_holds es p n) ∙ ap is_some (sym c.look-at.ensures.number) ∙ sym c.if-is_some.ensures in
     record { fresh = none; place = c.look-at.ensures.place ∙ place_none es p n none; within = omega (arith, encoded_fits (all_bytes s) s.len s.within es (held_packed s)) }
 
-pub overflow-sub-self : goal.overflow-sub-self
-overflow-sub-self c = let e = end (goal.at.overflow-sub-self c).Else-is-some in omega (arith, e.place, e.within)
+pub overflow_sub-self : goal.overflow_sub-self
+overflow_sub-self c = let e = end (goal.at.overflow_sub-self c).Else-is_some in omega (arith, e.place, e.within)
 
 pub returns-then-self-at : goal.returns-then-self-at
 returns-then-self-at c =
     let s = c.args.self.now in
-    let e = end (goal.at.returns-then-self-at c).Else-is-some in
-    record { gives = sym (put_full class (room_of s) (held class s) c.args.partition c.args.name.now (sym c.if-not-is-key.ensures) e.fresh (omega (arith, e.place, e.within, used_encoded (held class s), c.record-length.ensures, c.if-self-at.true))); order = refl; leaves = refl; keeps = refl; beyond = refl; lends = refl }
+    let e = end (goal.at.returns-then-self-at c).Else-is_some in
+    record { gives = sym (put_full class (room_of s) (held class s) c.args.partition c.args.name.now (sym c.if-not-is_key.ensures) e.fresh (omega (arith, e.place, e.within, used_encoded (held class s), c.record_length.ensures, c.if-self-at.true))); order = refl; leaves = refl; keeps = refl; beyond = refl; lends = refl }
 
 after : (c : goal.After-write) → Changed c.args.self.now.len (all_bytes c.args.self.now) c.write.new.self.image.now (held class c.args.self.now ++ entry_of c.args.partition c.args.name.now c.args.number ∷ [])
 after c =
     let s = c.args.self.now in
     let es = held class s in
     let new = entry_of c.args.partition c.args.name.now c.args.number in
-    let e = end (goal.at.invariant-of-self c).Else-is-some in
+    let e = end (goal.at.invariant_of-self c).Else-is_some in
     image_put (all_bytes s) s.len s.within es (held_packed s) new c.write.new.self.image.now c.look-at.result.0 e.place
-    (lawful_push es new (record { key = sym c.if-not-is-key.ensures; number = lt-ltb _ _ c.ranges.number.fits; alone = e.fresh; rest = packed_lawful _ es (held_packed s) }))
-    (omega (arith, e.place, e.within, c.record-length.ensures, c.if-self-at.false))
+    (lawful_push es new (record { key = sym c.if-not-is_key.ensures; number = lt-ltb _ _ c.ranges.number.fits; alone = e.fresh; rest = packed_lawful _ es (held_packed s) }))
+    (omega (arith, e.place, e.within, c.record_length.ensures, c.if-self-at.false))
     c.write.ensures.after
 
-pub invariant-of-self : goal.invariant-of-self
-invariant-of-self c = let k = (after c).image in (k.within, (c.args.self.now.few, (k.shape, (k.keys, (k.numbers, tt)))))
+pub invariant_of-self : goal.invariant_of-self
+invariant_of-self c = let k = (after c).image in (k.within, (c.args.self.now.few, (k.shape, (k.keys, (k.numbers, tt)))))
 
 pub returns : goal.returns
 returns c =
     let s = c.args.self.now in
     let es = held class s in
     let new = entry_of c.args.partition c.args.name.now c.args.number in
-    let e = end (goal.at.returns c).Else-is-some in
+    let e = end (goal.at.returns c).Else-is_some in
     let k = after (goal.at.returns c).After-write in
     record {
-      gives = sym (put_added class (room_of s) es c.args.partition c.args.name.now (sym c.if-not-is-key.ensures) e.fresh (omega (arith, e.place, e.within, used_encoded es, c.record-length.ensures, c.if-self-at.false)));
+      gives = sym (put_added class (room_of s) es c.args.partition c.args.name.now (sym c.if-not-is_key.ensures) e.fresh (omega (arith, e.place, e.within, used_encoded es, c.record_length.ensures, c.if-self-at.false)));
       order = k.image.lists;
       leaves = subst (IsPermutation (new ∷ es)) (sym k.image.lists) (shuffled_from (perm_push new es));
       keeps = refl;

@@ -6,28 +6,28 @@ use Rattle.image.specs.Held.{own_bytes, held, all_bytes}
 use Rattle.image.proofs.Changes.{Changed, held_packed, encoded_fits, place_fits, end_from, image_removed, taken_order, taken_leaves}
 use Rattle.image.proofs.LawfulLists.{found_holds}
 use Rattle.image.proofs.packed_store.PackedImageStore.take.Goals as goal
-use Rattle.image.proofs.packed_store.PackedImageStore.take.Goals.{Else-is-none, After-end-from-end, After-remove}
+use Rattle.image.proofs.packed_store.PackedImageStore.take.Goals.{Else-is_none, After-end_from-end, After-remove}
 
-there : (c : goal.Else-is-none) → holds (held class c.args.self.now) c.args.partition c.args.name.now ≡ true
-there c = sym (found_holds (held class c.args.self.now) c.args.partition c.args.name.now) ∙ ap is_some (sym c.look-at.ensures.number) ∙ c.if-is-none.ensures
+there : (c : goal.Else-is_none) → holds (held class c.args.self.now) c.args.partition c.args.name.now ≡ true
+there c = sym (found_holds (held class c.args.self.now) c.args.partition c.args.name.now) ∙ ap is_some (sym c.look-at.ensures.number) ∙ c.if-is_none.ensures
 
-end : (c : goal.After-end-from-end) → c.end-from-end.result ≡ length (encoded (held class c.args.self.now))
+end : (c : goal.After-end_from-end) → c.end_from-end.result ≡ length (encoded (held class c.args.self.now))
 end c =
     let s = c.args.self.now in
-    c.end-from-end.ensures ∙ end_from (own_bytes s) (held class s) (held_packed s) c.args.partition c.args.name.now c.look-at.result.0 c.look-at.ensures.place
+    c.end_from-end.ensures ∙ end_from (own_bytes s) (held class s) (held_packed s) c.args.partition c.args.name.now c.look-at.result.0 c.look-at.ensures.place
 
-pub end-from-end-requires : goal.end-from-end-requires
-end-from-end-requires c =
+pub end_from-end-requires : goal.end_from-end-requires
+end_from-end-requires c =
     let s = c.args.self.now in
     let es = held class s in
-    omega (arith, place_fits es c.args.partition c.args.name.now (there (goal.at.end-from-end-requires c).Else-is-none), encoded_fits (all_bytes s) s.len s.within es (held_packed s), c.look-at.ensures.place)
+    omega (arith, place_fits es c.args.partition c.args.name.now (there (goal.at.end_from-end-requires c).Else-is_none), encoded_fits (all_bytes s) s.len s.within es (held_packed s), c.look-at.ensures.place)
 
 pub remove-requires : goal.remove-requires
 remove-requires c =
     let s = c.args.self.now in
     let es = held class s in (
-      omega (arith, place_fits es c.args.partition c.args.name.now (there (goal.at.remove-requires c).Else-is-none), end (goal.at.remove-requires c).After-end-from-end, c.look-at.ensures.place, c.record-length.ensures),
-      omega (arith, encoded_fits (all_bytes s) s.len s.within es (held_packed s), end (goal.at.remove-requires c).After-end-from-end, s.within),
+      omega (arith, place_fits es c.args.partition c.args.name.now (there (goal.at.remove-requires c).Else-is_none), end (goal.at.remove-requires c).After-end_from-end, c.look-at.ensures.place, c.record_length.ensures),
+      omega (arith, encoded_fits (all_bytes s) s.len s.within es (held_packed s), end (goal.at.remove-requires c).After-end_from-end, s.within),
     )
 
 after : (c : goal.After-remove) → Changed c.args.self.now.len (all_bytes c.args.self.now) c.remove.new.self.image.now (without (held class c.args.self.now) c.args.partition c.args.name.now)
@@ -35,12 +35,12 @@ after c =
     let s = c.args.self.now in
     let image = all_bytes s in
     let at = c.look-at.result.0 in
-    let u = c.end-from-end.result in
-    image_removed image s.len s.within (held class s) (held_packed s) c.args.partition c.args.name.now c.remove.new.self.image.now at c.look-at.ensures.place (there (goal.at.invariant-of-self c).Else-is-none) u (end (goal.at.invariant-of-self c).After-end-from-end)
-    (c.remove.ensures.after ∙ ap (λ g. take at image ++ ((drop g (drop at (take u image)) ++ replicate g 0) ++ drop u image)) c.record-length.ensures)
+    let u = c.end_from-end.result in
+    image_removed image s.len s.within (held class s) (held_packed s) c.args.partition c.args.name.now c.remove.new.self.image.now at c.look-at.ensures.place (there (goal.at.invariant_of-self c).Else-is_none) u (end (goal.at.invariant_of-self c).After-end_from-end)
+    (c.remove.ensures.after ∙ ap (λ g. take at image ++ ((drop g (drop at (take u image)) ++ replicate g 0) ++ drop u image)) c.record_length.ensures)
 
-pub invariant-of-self : goal.invariant-of-self
-invariant-of-self c = let k = (after c).image in (k.within, (c.args.self.now.few, (k.shape, (k.keys, (k.numbers, tt)))))
+pub invariant_of-self : goal.invariant_of-self
+invariant_of-self c = let k = (after c).image in (k.within, (c.args.self.now.few, (k.shape, (k.keys, (k.numbers, tt)))))
 
 pub returns : goal.returns
 returns c =
@@ -50,8 +50,8 @@ returns c =
     let k = after (goal.at.returns c).After-remove in
     record {
       gives = c.look-at.ensures.number;
-      order = taken_order c.look-at.result.1 es _ p n c.if-is-none.ensures k.image.lists;
-      leaves = taken_leaves c.look-at.result.1 es _ p n c.if-is-none.ensures k.image.lists;
+      order = taken_order c.look-at.result.1 es _ p n c.if-is_none.ensures k.image.lists;
+      leaves = taken_leaves c.look-at.result.1 es _ p n c.if-is_none.ensures k.image.lists;
       keeps = refl;
       beyond = k.beyond;
       lends = c.remove.ensures.same;

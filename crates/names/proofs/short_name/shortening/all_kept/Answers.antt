@@ -11,8 +11,8 @@ by_first name i b inside here =
 
 pub returns-in-Forbidden : goal.returns-in-Forbidden
 returns-in-Forbidden c =
-    let other : keeps c.class-of.result ≡ false = elim c.in-Forbidden.is [ inl e ↦ ap keeps e | inr e ↦ ap keeps e ] in
-    sym (by_first _ _ false c.loop-byte-test.true (ap keeps (sym c.class-of.ensures) ∙ other)) ∙ c.loop-byte.invariant
+    let other : keeps c.class_of.result ≡ false = elim c.in-Forbidden.is [ inl e ↦ ap keeps e | inr e ↦ ap keeps e ] in
+    sym (by_first _ _ false c.loop-byte-test.true (ap keeps (sym c.class_of.ensures) ∙ other)) ∙ c.loop-byte.invariant
 
 pub loop-byte-preserved : goal.loop-byte-preserved
 loop-byte-preserved c = sym (by_first _ _ _ c.loop-byte-test.true (ap keeps (sym c.in-Kept.ensures))) ∙ c.loop-byte.invariant

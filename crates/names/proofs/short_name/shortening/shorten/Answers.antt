@@ -7,33 +7,37 @@ use Rattle.names.proofs.short_name.shortening.shorten.Goals as goal
 
 pub returns-in-Forbidden : goal.returns-in-Forbidden
 returns-in-Forbidden c = record {
-  answered = sym (at_forbidden class _ _ _ _ (sym c.if-not-length-fits.ensures) c.loop-byte.invariant c.loop-byte-test.true (sym c.in-Forbidden.ensures));
+  answered = sym (at_forbidden class _ _ _ _ (sym c.if-not-length_fits.ensures) c.loop-byte.invariant c.loop-byte-test.true (sym c.in-Forbidden.ensures));
   again = tt;
 }
 
 pub loop-byte-preserved : goal.loop-byte-preserved
 loop-byte-preserved c =
-    let fits = sym c.if-not-length-fits.ensures in
-    elim c.match-class-of.branch [
+    let fits = sym c.if-not-length_fits.ensures in
+    elim c.match-class_of.branch [
       | in-Dropped w ↦ rw (w.bytes-is, w.len-is) (at_dropped class _ _ _ _ fits c.loop-byte.invariant c.loop-byte-test.true (sym w.in-Dropped.ensures))
       | in-Kept w ↦ rw (w.bytes-is, w.len-is) (at_kept class _ _ _ _ fits c.loop-byte.invariant c.loop-byte-test.true (sym w.in-Kept.ensures))
     ]
 
 pub returns-then-len-eq0 : goal.returns-then-len-eq0
 returns-then-len-eq0 c = record {
-  answered = sym (at_empty class _ _ _ _ (sym c.if-not-length-fits.ensures) c.loop-byte.invariant (omega arith) c.if-len-eq0.true);
+  answered = sym (at_empty class _ _ _ _ (sym c.if-not-length_fits.ensures) c.loop-byte.invariant (omega arith) c.if-len-eq0.true);
   again = tt;
 }
 
-pub invariant-of-result : goal.invariant-of-result
-invariant-of-result c =
-    let fits = sym c.if-not-length-fits.ensures in
+pub invariant_of-result : goal.invariant_of-result
+invariant_of-result c =
+    let fits = sym c.if-not-length_fits.ensures in
     let most = length_at_most c.args.raw.now fits in
-    (omega arith, (at_end_short class _ _ _ _ fits c.loop-byte.invariant (omega arith) (omega arith), (c.loop-byte.invariant.zeros, tt)))
+    record {
+      within = omega arith;
+      short = at_end_short class _ _ _ _ fits c.loop-byte.invariant (omega arith) (omega arith);
+      rest = c.loop-byte.invariant.zeros;
+    }
 
 pub returns : goal.returns
 returns c =
-    let fits = sym c.if-not-length-fits.ensures in
+    let fits = sym c.if-not-length_fits.ensures in
     record {
       answered = sym (at_end class _ _ _ _ fits c.loop-byte.invariant (omega arith) (omega arith));
       again = short_stays class _ (at_end_short class _ _ _ _ fits c.loop-byte.invariant (omega arith) (omega arith));

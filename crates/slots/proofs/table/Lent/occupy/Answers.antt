@@ -32,10 +32,10 @@ returns c =
     let r = c.args.item in
     let s₁ = c.link.new.slots in
     let s₂ = c.link-2.new.slots in
-    let k₀ = code_key (length ss) r (omega arith) ∙ sym (c.key-chain-by-key.ensures.is ∙ ap (λ (z : ℕ). key_code (length ss) r.partition (take z r.name)) (sub-zero r.len)) in
-    let k₁ = code_rank (length ss) r (omega arith) ∙ sym c.rank-chain-by-rank.ensures.is in
+    let k₀ = code_key (length ss) r (omega arith) ∙ sym (c.key_chain-by_key.ensures.is ∙ ap (λ (z : ℕ). key_code (length ss) r.partition (take z r.name)) (sub-zero r.len)) in
+    let k₁ = code_rank (length ss) r (omega arith) ∙ sym c.rank_chain-by_rank.ensures.is in
     record {
       linked = written_linked ss s₁ s₂ c.args.i _ _ (omega arith) c.link.ensures.framed c.link-2.ensures.framed c.link.ensures.chained c.link-2.ensures.chained c.index-self-i.result _ refl refl k₀ k₁;
-      now = written_items ss s₁ s₂ c.args.i c.key-chain-by-key.result c.rank-chain-by-rank.result (omega arith) c.link.ensures.framed c.link-2.ensures.framed c.link.ensures.chained c.link-2.ensures.chained c.index-self-i.result _ refl refl;
+      now = written_items ss s₁ s₂ c.args.i c.key_chain-by_key.result c.rank_chain-by_rank.result (omega arith) c.link.ensures.framed c.link-2.ensures.framed c.link.ensures.chained c.link-2.ensures.chained c.index-self-i.result _ refl refl;
       spares = refl;
     }

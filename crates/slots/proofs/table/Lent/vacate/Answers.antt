@@ -12,7 +12,7 @@ unlink-requires c =
     record {
       sizes = (omega arith, (omega arith, omega arith));
       linked = c.requires.linked.0;
-      coded = items_read (code 0 (length ss)) ss c.args.i c.index-self-i.result (omega arith) ∙ code_key (length ss) r p ∙ sym (c.key-chain-by-key.ensures.is ∙ ap (λ (z : ℕ). key_code (length ss) r.partition (take z r.name)) (sub-zero r.len));
+      coded = items_read (code 0 (length ss)) ss c.args.i c.index-self-i.result (omega arith) ∙ code_key (length ss) r p ∙ sym (c.key_chain-by_key.ensures.is ∙ ap (λ (z : ℕ). key_code (length ss) r.partition (take z r.name)) (sub-zero r.len));
     }
 
 pub unlink-requires-2 : goal.unlink-requires-2
@@ -26,7 +26,7 @@ unlink-requires-2 c =
     record {
       sizes = (omega arith, (omega arith, omega arith));
       linked = linked_framed 0 1 ss s₁ (λ z. absurd (omega arith)) f c.requires.linked.1;
-      coded = ap (λ (z : ℕ). codes 1 z (items s₁) c.args.i) l ∙ ap (λ rs. codes 1 (length ss) rs c.args.i) f.items ∙ items_read (code 1 (length ss)) ss c.args.i c.index-self-i.result (omega arith) ∙ code_rank (length ss) r p ∙ sym c.rank-chain-by-rank.ensures.is;
+      coded = ap (λ (z : ℕ). codes 1 z (items s₁) c.args.i) l ∙ ap (λ rs. codes 1 (length ss) rs c.args.i) f.items ∙ items_read (code 1 (length ss)) ss c.args.i c.index-self-i.result (omega arith) ∙ code_rank (length ss) r p ∙ sym c.rank_chain-by_rank.ensures.is;
     }
 
 pub returns : goal.returns

@@ -7,19 +7,19 @@ use Rattle.slots.proofs.ColumnFacts.{column_read}
 use Rattle.slots.proofs.Walks.{RankWalk, rank_start, rank_used, rank_less, rank_next, rank_hit}
 use Rattle.slots.proofs.table.SlotTable.at_rank.Goals as goal
 
-pub returns-then-is-empty : goal.returns-then-is-empty
-returns-then-is-empty c =
+pub returns-then-is_empty : goal.returns-then-is_empty
+returns-then-is_empty c =
     let t = c.args.self.now in
-    let z = eqb-true _ _ (sym c.if-is-empty.ensures) in
+    let z = eqb-true _ _ (sym c.if-is_empty.ensures) in
     record { hit = λ h. absurd (omega (arith, z, t.within)); miss = λ _ j h. absurd (omega (arith, z, t.within)) }
 
 pub loop-v-init : goal.loop-v-init
 loop-v-init c =
     let t = c.args.self.now in
-    let b = c.rank-chain-b.result in
+    let b = c.rank_chain-b.result in
     let d = c.index-slots-b.result in
-    let r = column_read t.lent.slots.now b d c.rank-chain-b.ensures.below (λ s. get_or s.heads 1 0) in
-    subst (RankWalk t c.args.partition c.args.rank b c.rank-chain-b.ensures.is c.rank-chain-b.ensures.below) (sym r) (rank_start t _ _ b c.rank-chain-b.ensures.is c.rank-chain-b.ensures.below)
+    let r = column_read t.lent.slots.now b d c.rank_chain-b.ensures.below (λ s. get_or s.heads 1 0) in
+    subst (RankWalk t c.args.partition c.args.rank b c.rank_chain-b.ensures.is c.rank_chain-b.ensures.below) (sym r) (rank_start t _ _ b c.rank_chain-b.ensures.is c.rank_chain-b.ensures.below)
 
 read : (c : goal.After-v·1) → nexts 1 c.args.self.now.lent.slots.now (c.loop-v.v - 1) ≡ get_or c.index-slots-v.result.nexts 1 0
 read c =
@@ -28,24 +28,24 @@ read c =
 
 pub loop-v-smaller : goal.loop-v-smaller
 loop-v-smaller c =
-    omega (arith, read c, rank_less c.args.self.now _ _ c.rank-chain-b.result c.rank-chain-b.ensures.is c.rank-chain-b.ensures.below c.loop-v.v c.loop-v.invariant c.loop-v-test.true)
+    omega (arith, read c, rank_less c.args.self.now _ _ c.rank_chain-b.result c.rank_chain-b.ensures.is c.rank_chain-b.ensures.below c.loop-v.v c.loop-v.invariant c.loop-v-test.true)
 
 pub loop-v-preserved : goal.loop-v-preserved
 loop-v-preserved c =
     let t = c.args.self.now in
-    let b = c.rank-chain-b.result in
+    let b = c.rank_chain-b.result in
     let d = c.index-slots-v.result in
-    let f = ap (λ (s : Slot). in_rank c.args.partition c.args.rank s.item) (sym c.index-slots-v.is) ∙ sym c.if-is-ranked.ensures in
-    subst (RankWalk t c.args.partition c.args.rank b c.rank-chain-b.ensures.is c.rank-chain-b.ensures.below) (read c)
-    (rank_next t _ _ b c.rank-chain-b.ensures.is c.rank-chain-b.ensures.below c.loop-v.v c.loop-v.invariant c.loop-v-test.true d f)
+    let f = ap (λ (s : Slot). in_rank c.args.partition c.args.rank s.item) (sym c.index-slots-v.is) ∙ sym c.if-is_ranked.ensures in
+    subst (RankWalk t c.args.partition c.args.rank b c.rank_chain-b.ensures.is c.rank_chain-b.ensures.below) (read c)
+    (rank_next t _ _ b c.rank_chain-b.ensures.is c.rank_chain-b.ensures.below c.loop-v.v c.loop-v.invariant c.loop-v-test.true d f)
 
-pub returns-then-is-ranked : goal.returns-then-is-ranked
-returns-then-is-ranked c =
+pub returns-then-is_ranked : goal.returns-then-is_ranked
+returns-then-is_ranked c =
     let t = c.args.self.now in
     let d = c.index-slots-v.result in
-    let f = ap (λ (s : Slot). in_rank c.args.partition c.args.rank s.item) (sym c.index-slots-v.is) ∙ sym c.if-is-ranked.ensures in
-    let g = rank_hit t _ _ c.rank-chain-b.result c.rank-chain-b.ensures.is c.rank-chain-b.ensures.below c.loop-v.v c.loop-v.invariant c.loop-v-test.true d f in
-    let u = rank_used t _ _ c.rank-chain-b.result c.rank-chain-b.ensures.is c.rank-chain-b.ensures.below c.loop-v.v c.loop-v.invariant c.loop-v-test.true in
+    let f = ap (λ (s : Slot). in_rank c.args.partition c.args.rank s.item) (sym c.index-slots-v.is) ∙ sym c.if-is_ranked.ensures in
+    let g = rank_hit t _ _ c.rank_chain-b.result c.rank_chain-b.ensures.is c.rank_chain-b.ensures.below c.loop-v.v c.loop-v.invariant c.loop-v-test.true d f in
+    let u = rank_used t _ _ c.rank_chain-b.result c.rank_chain-b.ensures.is c.rank_chain-b.ensures.below c.loop-v.v c.loop-v.invariant c.loop-v-test.true in
     record { hit = λ _. g; miss = λ h. absurd (omega (arith, h, u)) }
 
 pub returns : goal.returns

@@ -15,20 +15,20 @@ use Rattle.slots.proofs.table.SlotTable.kth.Goals as goal
 low : (t : SlotTable) (p k : ℕ) → k < length (inside (entries_by_rank t) p) → p < 512
 low t p k h = ⊎_elim {C = p < 512} (λ z. z) (λ z. absurd (omega (arith, ap length (inside_high (entries_by_rank t) p (lawful t) (omega arith))))) (cases_lt p 512)
 
-pub returns-then-k-count-in : goal.returns-then-k-count-in
-returns-then-k-count-in c =
-    record { hit = λ h. absurd (omega arith); miss = λ _. slice_get_past (inside (entries_by_rank c.args.self.now) c.args.partition) c.args.k (omega (arith, c.count-in.ensures)) }
+pub returns-then-k-count_in : goal.returns-then-k-count_in
+returns-then-k-count_in c =
+    record { hit = λ h. absurd (omega arith); miss = λ _. slice_get_past (inside (entries_by_rank c.args.self.now) c.args.partition) c.args.k (omega (arith, c.count_in.ensures)) }
 
-pub returns-else-k-count-in : goal.returns-else-k-count-in
-returns-else-k-count-in c =
+pub returns-else-k-count_in : goal.returns-else-k-count_in
+returns-else-k-count_in c =
     let t = c.args.self.now in
     let p = c.args.partition in
     let k = c.args.k in
-    let l = low t p k (omega (arith, c.count-in.ensures)) in
-    let f : k < get_or t.counts p 0 = omega (arith, c.count-in.ensures, t.counted p l, count_perm p (by_rank_perm t)) in
-    let r = c.at-rank.result in
-    let j = rank_there t p k l r no_slot f c.at-rank.ensures.miss in
-    let m = c.at-rank.ensures.hit j in
+    let l = low t p k (omega (arith, c.count_in.ensures)) in
+    let f : k < get_or t.counts p 0 = omega (arith, c.count_in.ensures, t.counted p l, count_perm p (by_rank_perm t)) in
+    let r = c.at_rank.result in
+    let j = rank_there t p k l r no_slot f c.at_rank.ensures.miss in
+    let m = c.at_rank.ensures.hit j in
     record {
       hit = λ h. nth_some t p k l r no_slot j m.0 m.1 f ∙ sym (nth_held t r no_slot j);
       miss = λ h. absurd (omega (arith, j));

@@ -9,10 +9,10 @@ pub returns-clause-writes : goal.returns-clause-writes
 returns-clause-writes g c plain ok =
     let took = g.W.Write.write_str_gives in
     let start = c.args.f.now in
-    let end = c.write-str-2.new.self in
-    let opened = c.in-ok-write-str.ensures.writes plain refl in
-    let inner = c.in-ok-write-escaped.ensures opened.plain refl in
-    let closed = c.write-str-2.ensures.writes inner.plain ok in
+    let end = c.write_str-2.new.self in
+    let opened = c.in_ok-write_str.ensures.writes plain refl in
+    let inner = c.in_ok-write_escaped.ensures opened.plain refl in
+    let closed = c.write_str-2.ensures.writes inner.plain ok in
     has_written_of_eq took start _ _ end
     (append_assoc (codes "\"") (escaped Quotes c.args.self.now.0.now) (codes "\""))
-    (has_written_append took start _ c.write-escaped.new.f _ end (has_written_append took start _ c.write-str.new.self _ c.write-escaped.new.f opened inner) closed)
+    (has_written_append took start _ c.write_escaped.new.f _ end (has_written_append took start _ c.write_str.new.self _ c.write_escaped.new.f opened inner) closed)
