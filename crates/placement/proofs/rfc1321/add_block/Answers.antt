@@ -6,6 +6,6 @@ pub returns : goal.returns
 unfolding block
 returns c =
     let x = c.args.x.now in
-    let two = c.round-2.ensures ∙ ap (round x 2) c.round-1.ensures in
-    let three = c.round-3.ensures ∙ ap (round x 3) two in
-    ap (increased c.args.words) (c.round-4-a.ensures ∙ ap (round x 4) three)
+    let two = c.round_2.ensures ∙ ap (round x 2) c.round_1.ensures in
+    let three = c.round_3.ensures ∙ ap (round x 3) two in
+    ap (increased c.args.words) (c.round_4-a.ensures ∙ ap (round x 4) three)

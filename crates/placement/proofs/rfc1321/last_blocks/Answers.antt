@@ -13,26 +13,26 @@ loop-j-preserved c =
     ∙ front_more (replicate 128 0) rest j (omega arith) (omega arith)
 
 pub loop-j-2-init : goal.loop-j-2-init
-loop-j-2-init c = paste_none c.append-one.new.last c.length-place-at.result c.to-le-bytes-bits.result
+loop-j-2-init c = paste_none c.append_one.new.last c.length_place-at.result c.to_le_bytes-bits.result
 
 pub loop-j-2-preserved : goal.loop-j-2-preserved
 loop-j-2-preserved c =
-    let at = c.length-place-at.result in
-    let bits = c.to-le-bytes-bits.result in
+    let at = c.length_place-at.result in
+    let bits = c.to_le_bytes-bits.result in
     let j = c.loop-j-2.j in
     ap (λ (x : List ℕ). set x (at + j) (get_or bits j 0)) c.loop-j-2.invariant
-    ∙ paste_more c.append-one.new.last at bits j 0 (omega arith) (omega (arith, ap length c.to-le-bytes-bits.ensures))
+    ∙ paste_more c.append_one.new.last at bits j 0 (omega arith) (omega (arith, ap length c.to_le_bytes-bits.ensures))
 
 pub returns : goal.returns
 returns c =
-    let at = c.length-place-at.result in
-    let bits = c.to-le-bytes-bits.result in
+    let at = c.length_place-at.result in
+    let bits = c.to_le_bytes-bits.result in
     let rest = c.args.rest.now in
     let n = c.args.n in
     let full : c.loop-j.j ≡ length rest = omega arith in
     let done : c.loop-j-2.j ≡ 8 = omega arith in
     let front = c.loop-j.invariant ∙ ap (paste (replicate 128 0) 0 rest) full in
-    let marked = c.append-one.ensures ∙ ap (λ (x : List ℕ). set x (length rest) 128) front in
-    let all = c.loop-j-2.invariant ∙ ap (paste c.append-one.new.last at bits) done ∙ ap (λ (x : List ℕ). paste x at bits 8) marked in
-    let count = c.to-le-bytes-bits.ensures ∙ bytes8 c.bit-count.result ∙ ap (low_order 8) c.bit-count.ensures in
-    ap (take (length (rest ++ padding n))) all ∙ padded_rest rest bits n at c.requires c.length-place-at.ensures count
+    let marked = c.append_one.ensures ∙ ap (λ (x : List ℕ). set x (length rest) 128) front in
+    let all = c.loop-j-2.invariant ∙ ap (paste c.append_one.new.last at bits) done ∙ ap (λ (x : List ℕ). paste x at bits 8) marked in
+    let count = c.to_le_bytes-bits.ensures ∙ bytes8 c.bit_count.result ∙ ap (low_order 8) c.bit_count.ensures in
+    ap (take (length (rest ++ padding n))) all ∙ padded_rest rest bits n at c.requires c.length_place-at.ensures count
