@@ -9,8 +9,8 @@ use Rattle.index.proofs.maps.union.Goals as goal
 joined : (m n : Map) (ws : List ℕ) → ((q : ℕ) → bits ws q ≡ (has m q || has n q)) → IsMap (bits ws)
 joined m n ws e = map_same (union (has m) (has n)) (bits ws) e (union_map (has m) (has n) (map_of m.lawful) (map_of n.lawful))
 
-pub invariant-of-result : goal.invariant-of-result
-invariant-of-result c = (∣ joined c.args.a.now c.args.b.now _ c.union.ensures ∣₁, tt)
+pub invariant_of-result : goal.invariant_of-result
+invariant_of-result c = record { lawful = ∣ joined c.args.a.now c.args.b.now _ c.union.ensures ∣₁ }
 
 pub returns : goal.returns
 returns c = record { is_map = joined c.args.a.now c.args.b.now _ c.union.ensures; both = c.union.ensures }

@@ -4,7 +4,7 @@ use Rattle.std.proofs.Output.{writes_in_calls_nil, has_written_append, has_writt
 use Rattle.index.specs.Numbers.{Numbers}
 use Rattle.index.specs.Values.{has, listed}
 use Rattle.index.proofs.maps.write_partitions.Goals as goal
-use Rattle.index.proofs.maps.write_partitions.Goals.{then-has+in-ok-write, else-has}
+use Rattle.index.proofs.maps.write_partitions.Goals.{then-has+in_ok-write, else-has}
 
 -- one number more is looked at: it is listed, or it is not there
 listed_more : (m : Numbers) (k : ℕ) → 0 < k → listed m (k + 1 - 1) ≡ cond (m k) (listed m (k - 1) ++ (32 ∷ decimal k)) (listed m (k - 1))
@@ -17,21 +17,21 @@ listed_more m (suc j) h =
 
 pub loop-p-init : goal.loop-p-init
 unfolding listed
-loop-p-init g c plain = record { wrote = writes_in_calls_nil g.W.Write.write_str_gives c.write-str.new.self.writer; plain = plain }
+loop-p-init g c plain = record { wrote = writes_in_calls_nil g.W.Write.write_str_gives c.write_str.new.self.writer; plain = plain }
 
 pub loop-p-preserved : goal.loop-p-preserved
 loop-p-preserved g c plain =
     let took = g.W.Write.write_str_gives in
     let m = has c.args.map.now in
     let p = c.loop-p.p-counter in
-    let start = c.write-str.new.self in
+    let start = c.write_str.new.self in
     let so_far = c.loop-p.invariant plain in
     let more = listed_more m p c.loop-p.auto.p-counter in
     elim c.if-has.branch [
-      | then-has+in-ok-write w ↦
+      | then-has+in_ok-write w ↦
           has_written_to_eq took start _ w.write.new.self c.if-has.f w.f-is
           (has_written_of_eq took start _ _ w.write.new.self (sym (more ∙ cond-true (m p) _ _ (sym w.if-has.ensures)))
-          (has_written_append took start _ c.loop-p.f _ w.write.new.self so_far (w.in-ok-write.ensures.shows so_far.plain refl)))
+          (has_written_append took start _ c.loop-p.f _ w.write.new.self so_far (w.in_ok-write.ensures.writes so_far.plain refl)))
       | else-has w ↦
           has_written_to_eq took start _ c.loop-p.f c.if-has.f w.f-is
           (has_written_of_eq took start _ _ c.loop-p.f (sym (more ∙ cond-false (m p) _ _ (sym w.if-has.ensures))) so_far)
@@ -41,7 +41,7 @@ pub returns : goal.returns
 returns g c plain ok =
     let took = g.W.Write.write_str_gives in
     let m = has c.args.map.now in
-    let first = c.in-ok-write-str.ensures.writes plain ok in
+    let first = c.in_ok-write_str.ensures.writes plain ok in
     let all : c.loop-p.p-counter - 1 ≡ 511 = omega arith in
     has_written_of_eq took c.args.f.now _ _ c.loop-p.f (ap (λ (k : ℕ). codes "0" ++ listed m k) all)
-    (has_written_append took c.args.f.now (codes "0") c.write-str.new.self _ c.loop-p.f first (c.loop-p.invariant first.plain))
+    (has_written_append took c.args.f.now (codes "0") c.write_str.new.self _ c.loop-p.f first (c.loop-p.invariant first.plain))

@@ -8,13 +8,13 @@ pub loop-i-init : goal.loop-i-init
 unfolding size
 loop-i-init c = refl
 
-pub overflow-cast-n : goal.overflow-cast-n
-overflow-cast-n c =
+pub overflow_cast-n : goal.overflow_cast-n
+overflow_cast-n c =
     let word : get_or c.args.words.now c.loop-i.i 0 < 2 ^ 64 = search rules in
     omega (arith, ones-le 64 (get_or c.args.words.now c.loop-i.i 0) word)
 
-pub overflow-add-n : goal.overflow-add-n
-overflow-add-n c =
+pub overflow_add-n : goal.overflow_add-n
+overflow_add-n c =
     let word : get_or c.args.words.now c.loop-i.i 0 < 2 ^ 64 = search rules in
     omega (arith, ones-le 64 (get_or c.args.words.now c.loop-i.i 0) word, size_most (bits c.args.words.now) (64 * c.loop-i.i))
 

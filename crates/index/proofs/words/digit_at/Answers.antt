@@ -20,8 +20,8 @@ shifted x d h =
     let fits : bit x (31 - d) * 2 ^ d < 2 ^ 32 = omega (arith, low x d h) in
     ap (λ (b : ℕ). (b * 2 ^ d) % 2 ^ 32) (and_mask (x / 2 ^ (31 - d)) 1) ∙ mod-eq_of_lt fits
 
-pub overflow-cast-result : goal.overflow-cast-result
-overflow-cast-result c = omega (arith, shifted c.args.placement c.args.d c.requires, low c.args.placement c.args.d c.requires)
+pub overflow_cast-result : goal.overflow_cast-result
+overflow_cast-result c = omega (arith, shifted c.args.placement c.args.d c.requires, low c.args.placement c.args.d c.requires)
 
 pub returns : goal.returns
 returns c = shifted c.args.placement c.args.d c.requires

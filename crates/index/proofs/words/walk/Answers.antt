@@ -19,12 +19,12 @@ stops m M x p d l e few on stop = e ∙ sym (walk_stops m M x l d few on (λ h. 
 found : (m : Numbers) → IsMap m → (x p : ℕ) → x < 2 ^ 32 → p ≡ part_for m x → Alone m x p
 found m M x p l e = subst (Alone m x) (sym e) (alone m M x l)
 
-pub overflow-add-p : goal.overflow-add-p
-overflow-add-p c = record { fits = omega (arith, low c.args.placement c.loop-d.d c.loop-d.p c.loop-d-test.true c.loop-d.invariant.0) }
+pub overflow_add-p : goal.overflow_add-p
+overflow_add-p c = record { fits = omega (arith, low c.args.placement c.loop-d.d c.loop-d.p c.loop-d-test.true c.loop-d.invariant.0) }
 
-pub overflow-add-p-in-loop-d : goal.overflow-add-p-in-loop-d
-overflow-add-p-in-loop-d c =
-    let next : c.loop-d.p + c.digit-at-p.result ≡ path c.args.placement (suc c.loop-d.d) = ap₂ ◌+◌ c.loop-d.invariant.0 c.digit-at-p.ensures in
+pub overflow_add-p-in-loop-d : goal.overflow_add-p-in-loop-d
+overflow_add-p-in-loop-d c =
+    let next : c.loop-d.p + c.digit_at-p.result ≡ path c.args.placement (suc c.loop-d.d) = ap₂ ◌+◌ c.loop-d.invariant.0 c.digit_at-p.ensures in
     let most : 2 ^ suc c.loop-d.d ≤ 2 ^ 9 = pow_mono c.loop-d-test.true in
     record { fits = omega (arith, path_lt c.args.placement (suc c.loop-d.d)) }
 
@@ -40,7 +40,7 @@ loop-d-preserved c =
     let m = bits c.args.words.now in
     let on : m (path c.args.placement c.loop-d.d + 2 ^ c.loop-d.d) ≡ true =
     ap m (ap₂ ◌+◌ (sym c.loop-d.invariant.0) (sym c.power.ensures.0)) ∙ sym c.if-not-test.ensures in (
-      ap₂ ◌+◌ c.loop-d.invariant.0 c.digit-at-p.ensures ∙ ap (path c.args.placement) (sym (add-one c.loop-d.d)),
+      ap₂ ◌+◌ c.loop-d.invariant.0 c.digit_at-p.ensures ∙ ap (path c.args.placement) (sym (add-one c.loop-d.d)),
       below_more _ _ c.loop-d.invariant.1 on,
     )
 

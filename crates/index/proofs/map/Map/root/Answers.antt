@@ -1,4 +1,4 @@
 use Rattle.index.proofs.map.Map.root.Goals as goal
 
-pub invariant-of-result : goal.invariant-of-result
-invariant-of-result c = (∣ c.fill.ensures.least.is_map ∣₁, tt)
+pub invariant_of-result : goal.invariant_of-result
+invariant_of-result c = record { lawful = ∣ c.fill.ensures.least.is_map ∣₁ }
