@@ -1,12 +1,12 @@
 -- Sound lists of entries: every key is a good one, and none comes twice. cls gives the class of each byte.
-use Rattle.std.proofs.Common.{◌≡◌, ℕ, zero, suc, ◌+◌, ◌-◌, ◌<◌, ◌≤◌, Bool, true, false, cond, not, ◌&&◌, ◌||◌, leb, List, [], ◌∷◌, ◌++◌, length, get_or, take, set, Some, None, Option, sym, refl, ap, ◌∙◌, subst, le_of_suc-le-suc, not-suc-le-zero, arith}
+use Rattle.std.proofs.Common.{◌≡◌, ℕ, zero, suc, ◌<◌, ◌≤◌, Bool, true, false, cond, not, ◌&&◌, ◌||◌, leb, List, [], ◌∷◌, ◌++◌, length, get_or, take, set, Some, Option, sym, refl, ap, ◌∙◌, le_of_suc-le-suc, not-suc-le-zero}
 use Rattle.std.specs.List.{list_all, remove}
 use Rattle.std.specs.List.Sorted.{IsPermutation}
-use Rattle.std.proofs.lemmas.Bool.{and_parts, and_from, or_parts, or_from, not-true, not_from_false, both_ways, le-leb, leb-true, cond-true, cond-false}
+use Rattle.std.proofs.lemmas.Bool.{and_parts, and_from, or_parts, or_from, not-true, not_from_false, both_ways, le-leb, leb-true, cond-true}
 use Rattle.names.specs.Names.{is_kept, is_short}
 use Rattle.names.specs.declared.byte_class.ByteClass.{ByteClass}
 use Rattle.store.specs.Entries.{Entry, has_key, found, holds, without, index, is_key, sound}
-use Rattle.store.proofs.KeyFacts.{key_true, key_from, key_self, key_flip, key_both, holds_at, perm_holds}
+use Rattle.store.proofs.KeyFacts.{key_true, key_self, key_flip, key_both, holds_at, perm_holds}
 use Rattle.store.proofs.Shuffles.{Perm, perm_refl, perm_push, perm_out, perm_in, perm_fill, perm_from, perm_back}
 use Rattle.store.proofs.Shuffles.Perm.{none, keep, swap, then}
 
