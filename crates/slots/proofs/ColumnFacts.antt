@@ -1,9 +1,9 @@
 -- What a write to one slot leaves of the columns.
-use Rattle.std.proofs.Common.{◌≡◌, ℕ, ◌-◌, ◌<◌, List, map, length, get_or, set, sym, ap, ◌∙◌, arith}
+use Rattle.std.proofs.Common.{◌≡◌, ℕ, ◌<◌, List, map, length, get_or, set, sym, ap, ◌∙◌, arith}
 use Rattle.std.proofs.lemmas.List.{get_or-map, map-set, set-get_or, get_or-set_same, get_or-set_other, length-map}
 use Rattle.slots.specs.declared.slot.Slot.{Slot}
 use Rattle.slots.specs.Chains.{Pointed}
-use Rattle.slots.specs.Columns.{Framed, heads, nexts, items}
+use Rattle.slots.specs.Columns.{Framed, heads, nexts}
 
 module _ (ss : List Slot) (i : ℕ) (d : Slot) (h : i < length ss) where
   pub column_read : (f : Slot → ℕ) → f (get_or ss i d) ≡ get_or (map f ss) i 0

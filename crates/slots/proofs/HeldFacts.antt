@@ -1,5 +1,5 @@
 -- The entries of a table, one by one.
-use Rattle.std.proofs.Common.{◌≡◌, ℕ, zero, suc, ◌-◌, ◌<◌, ◌≤◌, true, List, [], ◌∷◌, length, get_or, take, Some, sym, refl, ap, ◌∙◌, arith}
+use Rattle.std.proofs.Common.{◌≡◌, ℕ, zero, suc, ◌<◌, ◌≤◌, true, List, [], ◌∷◌, length, get_or, take, Some, sym, refl, ap, ◌∙◌, arith}
 use Rattle.std.proofs.lemmas.List.{get_or-map, get_or-take}
 use Rattle.std.specs.List.{slice_get}
 use Rattle.std.proofs.lemmas.Option.{slice_get-get_or}
@@ -9,7 +9,7 @@ use Rattle.store.proofs.KeyFacts.{key_true, holds_at}
 use Rattle.store.proofs.SoundFacts.{holds_key, key_long}
 use Rattle.slots.specs.declared.slot.Slot.{Slot}
 use Rattle.slots.specs.declared.table.SlotTable.{SlotTable}
-use Rattle.slots.specs.Columns.{items, code, codes, heads, nexts, key_code}
+use Rattle.slots.specs.Columns.{items, code, codes, key_code}
 use Rattle.slots.specs.Table.{entry_in}
 use Rattle.slots.specs.Held.{held}
 use Rattle.slots.specs.Lawful.{length_use, length_held}

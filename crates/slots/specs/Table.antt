@@ -3,7 +3,7 @@ use Rattle.std.specs.Prelude.{◌≡◌, ℕ, ◌<◌, ◌≤◌, List, map, len
 use Rattle.store.specs.Entries.{Entry, inside}
 use Rattle.slots.specs.declared.slot.Item.{Item}
 use Rattle.slots.specs.declared.slot.Slot.{Slot}
-use Rattle.slots.specs.Columns.{items, lengths}
+use Rattle.slots.specs.Columns.{lengths}
 
 -- the entry in an item
 abbrev pub entry_in : Item → Entry

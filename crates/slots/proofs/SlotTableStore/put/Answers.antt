@@ -37,7 +37,7 @@ invariant_of-self c =
     let x = entry_of c.args.partition c.args.name.now c.args.number in
     let h = missed t _ _ _ c.place.ensures.is c.if-place-self.false in
     let z = put_made t c.occupy.new.self c.holding-item.result x c.occupy.ensures.linked c.occupy.ensures.now c.if-self.false c.holding-item.ensures.holds (sym c.if-not-is_key.ensures) h.has c.holding-item.ensures.rank in
-    (z.within, (z.few, (z.lawful, (z.keyheads, (z.keynexts, (z.rankheads, (z.ranknexts, (z.free, (z.wide, (z.ranks, (z.counted, tt)))))))))))
+    record { within = z.within; few = z.few; lawful = z.lawful; keyheads = z.keyheads; keynexts = z.keynexts; rankheads = z.rankheads; ranknexts = z.ranknexts; free = z.free; wide = z.wide; ranks = z.ranks; counted = z.counted }
 
 pub returns : goal.returns
 returns c =

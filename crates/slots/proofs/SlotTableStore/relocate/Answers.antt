@@ -1,4 +1,4 @@
-use Rattle.std.proofs.Common.{ℕ, ◌-◌, ◌<◌, ◌∷◌, length, get_or, Option, sym, refl, ap, ◌∙◌, subst, ⊎_elim, arith}
+use Rattle.std.proofs.Common.{ℕ, ◌<◌, ◌∷◌, length, get_or, Option, sym, refl, ap, ◌∙◌, subst, ⊎_elim, arith}
 use Rattle.std.specs.List.{remove}
 use Rattle.names.specs.Names.{class}
 use Rattle.store.specs.Entries.{Entry, found, entry_of}
@@ -7,7 +7,7 @@ use Rattle.store.proofs.Shuffles.{Perm, shuffled_from, perm_back}
 use Rattle.store.proofs.Shuffles.Perm.{keep, then}
 use Rattle.store.proofs.SoundFacts.{perm_found, perm_without}
 use Rattle.store.proofs.AnswerFacts.{move_absent, move_high, move_moved, move_answer_perm}
-use Rattle.slots.specs.Columns.{items, ranks}
+use Rattle.slots.specs.Columns.{items}
 use Rattle.slots.specs.Held.{held, entries_by_rank, room_for}
 use Rattle.slots.specs.Lawful.{length_held, by_rank_perm, lawful}
 use Rattle.slots.proofs.LinkFacts.{items_read, items_length}
@@ -98,7 +98,7 @@ invariant_of-self c =
     let li : i < length ss = omega (arith, h, t.within) in
     let f = missed t _ _ _ c.place.ensures.is c.if-place-self.false in
     let z = move_made t i c.args.from c.args.name.now c.place-i.ensures.is h di j hj m.0 m.1 _ c.rewrite.new.self (sym (held_at t j dj blank hj)) (sym (items_read (λ r. r.partition) ss j dj l) ∙ m.0) (sym (items_read (λ r. r.rank) ss i di li)) c.rewrite.ensures.now c.rewrite-2.new.self c.rewrite-2.ensures.linked c.args.to _ refl refl refl c.if-to-gt-LAST_PARTITION.false f.has c.rewrite-2.ensures.now in
-    (z.within, (z.few, (z.lawful, (z.keyheads, (z.keynexts, (z.rankheads, (z.ranknexts, (z.free, (z.wide, (z.ranks, (z.counted, tt)))))))))))
+    record { within = z.within; few = z.few; lawful = z.lawful; keyheads = z.keyheads; keynexts = z.keynexts; rankheads = z.rankheads; ranknexts = z.ranknexts; free = z.free; wide = z.wide; ranks = z.ranks; counted = z.counted }
 
 pub returns : goal.returns
 returns c =

@@ -3,7 +3,7 @@ use Rattle.names.specs.Names.{class}
 use Rattle.store.proofs.Shuffles.{shuffled_from, perm_back}
 use Rattle.store.proofs.Shuffles.Perm.{then}
 use Rattle.store.proofs.SoundFacts.{perm_found, perm_without}
-use Rattle.slots.specs.Columns.{items, ranks}
+use Rattle.slots.specs.Columns.{items}
 use Rattle.slots.specs.Held.{room_for}
 use Rattle.slots.specs.Lawful.{by_rank_perm, lawful}
 use Rattle.slots.proofs.LinkFacts.{items_read, items_length}
@@ -72,7 +72,7 @@ invariant_of-self c =
     let l : j < length ss = omega (arith, hj, t.within) in
     let li : i < length ss = omega (arith, h, t.within) in
     let z = take_made t i c.args.partition c.args.name.now c.place-i.ensures.is h di j hj m.0 m.1 _ c.rewrite.new.self (sym (held_at t j dj blank hj)) (sym (items_read (λ r. r.partition) ss j dj l) ∙ m.0) (sym (items_read (λ r. r.rank) ss i di li)) c.rewrite.ensures.now c.remove.new.self c.remove.ensures.linked c.remove.ensures.size c.remove.ensures.vacant c.remove.ensures.others (c.remove.ensures.now di.item) in
-    (z.within, (z.few, (z.lawful, (z.keyheads, (z.keynexts, (z.rankheads, (z.ranknexts, (z.free, (z.wide, (z.ranks, (z.counted, tt)))))))))))
+    record { within = z.within; few = z.few; lawful = z.lawful; keyheads = z.keyheads; keynexts = z.keynexts; rankheads = z.rankheads; ranknexts = z.ranknexts; free = z.free; wide = z.wide; ranks = z.ranks; counted = z.counted }
 
 pub returns : goal.returns
 returns c =

@@ -1,4 +1,4 @@
-use Rattle.std.proofs.Common.{◌≡◌, ℕ, ◌-◌, map, length, get_or, take, sym, refl, ap, ◌∙◌, arith}
+use Rattle.std.proofs.Common.{◌≡◌, ℕ, map, length, get_or, take, sym, refl, ap, ◌∙◌, arith}
 use native.Mathlib.Nat.{sub-zero}
 use Rattle.slots.specs.Columns.{items, lengths, key_code}
 use Rattle.slots.proofs.LinkFacts.{framed_length, linked_framed, code_free, length_items, code_key, code_rank, written_items, written_linked}

@@ -1,4 +1,4 @@
-use Rattle.std.proofs.Common.{ℕ, ◌-◌, ◌<◌, length, get_or, take, sym, refl, ap, ◌∙◌, arith}
+use Rattle.std.proofs.Common.{ℕ, ◌<◌, length, get_or, take, sym, refl, ap, ◌∙◌, arith}
 use native.Mathlib.Nat.{sub-zero}
 use Rattle.slots.specs.Columns.{items, code, codes, key_code}
 use Rattle.slots.proofs.LinkFacts.{framed_length, linked_framed, items_read, code_key, code_rank, written_items, vacated_linked}

@@ -21,7 +21,7 @@ loop-v-init c =
     let r = column_read t.lent.slots.now b d c.rank_chain-b.ensures.below (λ s. get_or s.heads 1 0) in
     subst (RankWalk t c.args.partition c.args.rank b c.rank_chain-b.ensures.is c.rank_chain-b.ensures.below) (sym r) (rank_start t _ _ b c.rank_chain-b.ensures.is c.rank_chain-b.ensures.below)
 
-read : (c : goal.After-v·1) → nexts 1 c.args.self.now.lent.slots.now (c.loop-v.v - 1) ≡ get_or c.index-slots-v.result.nexts 1 0
+read : (c : goal.After-v-1) → nexts 1 c.args.self.now.lent.slots.now (c.loop-v.v - 1) ≡ get_or c.index-slots-v.result.nexts 1 0
 read c =
     sym (column_read c.args.self.now.lent.slots.now (c.loop-v.v - 1) c.index-slots-v.result (omega (arith, c.loop-v.invariant.0, c.loop-v-test.true)) (λ s. get_or s.nexts 1 0))
     ∙ ap (λ (s : Slot). get_or s.nexts 1 0) (sym c.index-slots-v.is)
