@@ -12,7 +12,7 @@ use Rattle.image.specs.declared.fault.RecordFault.{RecordFault}
 use Rattle.image.specs.declared.fault.ImageFault.{ImageFault}
 use Rattle.image.specs.declared.fault.ImageFault.TheVariants.{Record, SecondEntry, NonZeroByte}
 use Rattle.image.proofs.Fields.{some_none, cond_none}
-use Rattle.image.proofs.Encoding.{Whole, whole_from, whole_fault, spelled, record_spelled, whole_spelled, entry_spelled, rest_spelled, spelled_back, key_read, number_read}
+use Rattle.image.proofs.Encoding.{whole_from, whole_fault, spelled, record_spelled, whole_spelled, entry_spelled, rest_spelled, spelled_back, key_read, number_read}
 use Rattle.image.proofs.LawfulLists.{Lawful, lawful_parts, lawful_push, lawful_at, holds_front}
 use Rattle.image.proofs.Listing.{listed_none, listed_step}
 

@@ -16,7 +16,9 @@ after : (c : goal.After-wipe) → Changed c.args.self.now.len (all_bytes c.args.
 after c = let s = c.args.self.now in image_cleared (all_bytes s) s.len s.within (held class s) (held_packed s) c.wipe.new.self.image.now c.end_from-end.result (end (goal.at.invariant_of-self c).After-end_from-end) c.wipe.ensures.after
 
 pub invariant_of-self : goal.invariant_of-self
-invariant_of-self c = let k = (after c).image in (k.within, (c.args.self.now.few, (k.shape, (k.keys, (k.numbers, tt)))))
+invariant_of-self c =
+    let k = (after c).image in
+    record { within = k.within; few = c.args.self.now.few; shape = k.shape; keys = k.keys; numbers = k.numbers }
 
 pub returns : goal.returns
 returns c = let k = after (goal.at.returns c).After-wipe in record { empties = k.image.lists; keeps = refl; beyond = k.beyond; lends = c.wipe.ensures.same }

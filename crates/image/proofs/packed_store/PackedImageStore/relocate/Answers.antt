@@ -50,7 +50,9 @@ after c =
     (key_other class p c.args.to n (holds_key class es p n s.keys t) (omega arith)) c.repartition.ensures.after
 
 pub invariant_of-self : goal.invariant_of-self
-invariant_of-self c = let k = (after c).image in (k.within, (c.args.self.now.few, (k.shape, (k.keys, (k.numbers, tt)))))
+invariant_of-self c =
+    let k = (after c).image in
+    record { within = k.within; few = c.args.self.now.few; shape = k.shape; keys = k.keys; numbers = k.numbers }
 
 pub returns : goal.returns
 returns c =

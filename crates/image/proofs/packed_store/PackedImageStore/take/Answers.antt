@@ -40,7 +40,9 @@ after c =
     (c.remove.ensures.after ∙ ap (λ g. take at image ++ ((drop g (drop at (take u image)) ++ replicate g 0) ++ drop u image)) c.record_length.ensures)
 
 pub invariant_of-self : goal.invariant_of-self
-invariant_of-self c = let k = (after c).image in (k.within, (c.args.self.now.few, (k.shape, (k.keys, (k.numbers, tt)))))
+invariant_of-self c =
+    let k = (after c).image in
+    record { within = k.within; few = c.args.self.now.few; shape = k.shape; keys = k.keys; numbers = k.numbers }
 
 pub returns : goal.returns
 returns c =
