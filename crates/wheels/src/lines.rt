@@ -1,4 +1,5 @@
 ghost use Rattle.std.specs.Prelude.{◌≡◌, ◌≤◌, length, MatchOption};
+ghost use Rattle.std.specs.Iterator.{at_most};
 ghost use Rattle.wheels.specs.Texts.{line_length, FirstLine};
 
 /// The lines of a text, without their ends. What follows the last end is a line too, where it is not empty.
@@ -20,9 +21,7 @@ impl<'a> Iterator for Lines<'a> {
 
     ghost next_gives = { λ lines r after. MatchOption r ((length lines.rest.now ≡ 0) × (after ≡ lines)) (λ line. FirstLine lines.rest.now line.now after.rest.now) };
 
-    ghost ends = { λ _. Unit {0} };
-
-    ghost remaining = { λ lines. length lines.rest.now };
+    ghost remaining = { λ lines. at_most (length lines.rest.now) };
 
     fn next(&mut self) -> Option<&'a [u8]> {
         if self.rest.is_empty() {

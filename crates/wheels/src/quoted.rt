@@ -52,11 +52,11 @@ fn write_escaped<W: fmt::Write>(
 }
 
 /// Writes a byte as itself, or as `%` and two hexadecimal digits.
-fn write_byte<W: fmt::Write>(byte: u8, is_plain: bool, f: &mut fmt::Formatter<W>) -> fmt::Result
-    requires { is_plain ≡ true → byte < 128 }
-    ensures { WritesOnOk W.Write.write_str_gives f.old result (byte_text is_plain byte) f.new }
+fn write_byte<W: fmt::Write>(byte: u8, stands: bool, f: &mut fmt::Formatter<W>) -> fmt::Result
+    requires { stands ≡ true → byte < 128 }
+    ensures { WritesOnOk W.Write.write_str_gives f.old result (byte_text stands byte) f.new }
 {
-    if is_plain {
+    if stands {
         return f.write_char(byte as char);
     }
     f.write_char('%')?;
@@ -80,12 +80,12 @@ fn stands_as_itself(style: Style, byte: u8) -> bool
     ensures ascii { result ≡ true → byte < 128 }
 {
     match style {
-        Style::Quotes => is_printable(byte),
+        Style::Quotes => is_plain(byte),
         Style::Word => is_alphanumeric(byte),
     }
 }
 
-fn is_printable(byte: u8) -> bool
+fn is_plain(byte: u8) -> bool
     ensures value { result ≡ plain byte }
     ensures ascii { result ≡ true → byte < 128 }
 {

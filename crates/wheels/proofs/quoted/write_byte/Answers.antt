@@ -1,4 +1,4 @@
-use Rattle.std.proofs.Common.{◌≡◌, ℕ, ◌/◌, ◌%◌, ◌<◌, true, cond, List, [], ◌∷◌, ◌++◌, sym, refl, ap, ◌∙◌, arith}
+use Rattle.std.proofs.Common.{◌≡◌, ℕ, ◌/◌, ◌%◌, ◌<◌, true, List, [], ◌∷◌, ◌++◌, sym, refl, ap, ◌∙◌, arith}
 use lib.Utf8.{encode}
 use Rattle.std.specs.Fmt.{digit_glyph}
 use Rattle.std.proofs.Output.{has_written_append, has_written_of_eq}
@@ -11,10 +11,10 @@ use Rattle.wheels.proofs.quoted.write_byte.Goals as goal
 digit_text : (x d : ℕ) → d < 16 → x ≡ digit_glyph true d → encode x ≡ digit_glyph true d ∷ []
 digit_text x d h e = ap encode e ∙ encode_ascii (digit_glyph true d) (grind (arith, nat_tests))
 
-pub returns-then-is_plain : goal.returns-then-is_plain
-returns-then-is_plain g c plain ok =
+pub returns-then-stands : goal.returns-then-stands
+returns-then-stands g c plain ok =
     has_written_of_eq g.W.Write.write_str_gives c.args.f.now _ _ c.write_char.new.self
-    (encode_ascii c.args.byte (c.requires c.if-is_plain.true) ∙ sym (cond-true c.args.is_plain _ _ c.if-is_plain.true))
+    (encode_ascii c.args.byte (c.requires c.if-stands.true) ∙ sym (cond-true c.args.stands _ _ c.if-stands.true))
     (c.write_char.ensures.writes plain ok)
 
 pub returns : goal.returns
@@ -30,6 +30,6 @@ returns g c plain ok =
     (ap (λ (t : List ℕ). t ++ encode c.hex_digit.result ++ encode c.hex_digit-2.result) (encode_ascii 37 (omega arith))
     ∙ ap (λ (t : List ℕ). 37 ∷ (t ++ encode c.hex_digit-2.result)) (digit_text c.hex_digit.result (byte / 16) h c.hex_digit.ensures)
     ∙ ap (λ (t : List ℕ). 37 ∷ digit_glyph true (byte / 16) ∷ t) (digit_text c.hex_digit-2.result (byte % 16) l c.hex_digit-2.ensures)
-    ∙ sym (cond-false c.args.is_plain _ _ c.if-is_plain.false))
+    ∙ sym (cond-false c.args.stands _ _ c.if-stands.false))
     (has_written_append took c.args.f.now _ c.write_char-3.new.self _ c.write_char-4.new.self
     (has_written_append took c.args.f.now _ c.write_char-2.new.self _ c.write_char-3.new.self mark high) low)
