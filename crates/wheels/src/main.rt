@@ -19,6 +19,7 @@ use quoted::Quoted;
 use report::{report, report_setup};
 use request::{Request, Source};
 use std::io::Read;
+use std::process::ExitCode;
 use std::{env, fmt, fs, io};
 
 const USAGE: &str = "usage: wheels
@@ -45,7 +46,7 @@ const EXAMPLE_IDS: [&[u8]; 14] = [
     b"",
 ];
 
-fn main(rt: HostRuntime) -> io::Result<()> {
+fn main(rt: HostRuntime) -> io::Result<ExitCode> {
     match arguments(&rt) {
         Ok(words) => match Command::read(words.as_slice()) {
             Ok(Command::Place(request)) => run(&rt, &request),
@@ -62,17 +63,18 @@ fn arguments(rt: &HostRuntime) -> io::Result<Vec<String>> {
 }
 
 /// Says what is wrong with the arguments, and how they are written.
-fn fail(rt: &HostRuntime, message: impl fmt::Display + Drop) -> io::Result<()> {
+fn fail(rt: &HostRuntime, message: impl fmt::Display + Drop) -> io::Result<ExitCode> {
     eprintln!(rt; "wheels: {message}\n{USAGE}")?;
-    Err(io::Error::from(io::ErrorKind::InvalidInput))
+    Ok(ExitCode::FAILURE)
 }
 
 /// Places the IDs of a request, unless its settings are refused.
-fn run(rt: &HostRuntime, request: &Request) -> io::Result<()> {
+fn run(rt: &HostRuntime, request: &Request) -> io::Result<ExitCode> {
     match request.settings() {
         Ok(settings) => {
             let map = Map::fill(&request.partitions);
-            place(rt, &settings, &map, request.source)
+            place(rt, &settings, &map, request.source)?;
+            Ok(ExitCode::SUCCESS)
         }
         Err(refusal) => {
             let servers = request.servers;
@@ -112,15 +114,18 @@ fn place_input(rt: &HostRuntime, settings: &Settings, map: &Map) -> io::Result<(
 }
 
 /// Says what the packed image in a file holds. The file is read whole and never written.
-fn show_image(rt: &HostRuntime, path: &str) -> io::Result<()> {
+fn show_image(rt: &HostRuntime, path: &str) -> io::Result<ExitCode> {
     match fs::read(rt, path) {
-        Ok(image) => report_image(rt, image.as_slice()),
+        Ok(image) => {
+            report_image(rt, image.as_slice())?;
+            Ok(ExitCode::SUCCESS)
+        }
         Err(error) => {
             eprintln!(rt;
                 "wheels: {} cannot be read: {error}",
                 Quoted(path.as_bytes())
             )?;
-            Err(error)
+            Ok(ExitCode::FAILURE)
         }
     }
 }
