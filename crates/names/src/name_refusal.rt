@@ -1,17 +1,18 @@
 ghost use Rattle.std.specs.Prelude.{◌≡◌, Some};
 ghost use Rattle.names.specs.Refusals.{refusal_number, refusal_words};
 
+use std::error::Error;
 use std::fmt;
 
-/// Why a name is refused.
+/// Why a name is refused, with the number of the refusal in answers.
 #[derive(Clone, Copy, PartialEq, Eq, Debug)]
 pub enum NameRefusal {
     /// Its length is 0 or above 32.
-    Length,
+    Length = 3,
     /// It has a forbidden byte.
-    Forbidden,
+    Forbidden = 4,
     /// It has no kept byte.
-    Empty,
+    Empty = 5,
 }
 
 impl NameRefusal {
@@ -19,21 +20,7 @@ impl NameRefusal {
     pub fn number(self) -> u8
         ensures { result ≡ refusal_number self }
     {
-        match self {
-            NameRefusal::Length => 3,
-            NameRefusal::Forbidden => 4,
-            NameRefusal::Empty => 5,
-        }
-    }
-
-    fn words(self) -> &'static str
-        ensures { result.now ≡ refusal_words self }
-    {
-        match self {
-            NameRefusal::Length => "the length is 0 or above 32",
-            NameRefusal::Forbidden => "it has a forbidden byte",
-            NameRefusal::Empty => "it has no kept byte",
-        }
+        self as u8
     }
 }
 
@@ -41,6 +28,12 @@ impl fmt::Display for NameRefusal {
     ghost output = { λ refusal. Some (refusal_words refusal) };
 
     fn fmt<W: fmt::Write>(&self, f: &mut fmt::Formatter<W>) -> fmt::Result {
-        f.write_str(self.words())
+        f.write_str(match self {
+            NameRefusal::Length => "the length is 0 or above 32",
+            NameRefusal::Forbidden => "it has a forbidden byte",
+            NameRefusal::Empty => "it has no kept byte",
+        })
     }
 }
+
+impl Error for NameRefusal {}
