@@ -1,5 +1,9 @@
-ghost use Rattle.std.specs.Prelude.{◌≡◌, ◌-◌, ◌≤◌, true, take, drop, replicate};
+ghost use Rattle.std.specs.Prelude.{◌≡◌, ◌≤◌, ◌-◌, ◌++◌, List, ℕ, true, length, take, drop, replicate};
+ghost use Rattle.std.proofs.Common.{sym, subst, ap, ◌∙◌, length-take-le, take-append-drop};
 ghost use Rattle.names.specs.Names.{class, is_short};
+ghost use Rattle.names.specs.Shortening.{padded};
+
+use std::marker::Model;
 
 mod shortening;
 
@@ -8,12 +12,50 @@ pub use shortening::{is_short, shorten};
 /// The most bytes that a name has.
 pub const MAX_LENGTH: usize = 32;
 
-/// A name's short form: the first `len` of the bytes, all kept ones. Zeros follow, so equal short forms are equal values.
-#[derive(Clone, Copy, Debug)]
+/// A name's short form, which a contract sees as the list of its bytes. Names are the same where their short forms are equal.
+#[derive(Clone, Copy, PartialEq, Eq, Debug)]
 pub struct ShortName {
     bytes: [u8; MAX_LENGTH],
     len: u8,
-    ghost within: { len ≤ 32 },
-    ghost short: { is_short class (take len bytes) ≡ true },
-    ghost rest: { drop len bytes ≡ replicate (32 - len) 0 },
+}
+
+// The first `len` of the bytes, all kept ones. Zeros follow, so equal short forms are equal fields.
+impl Model for ShortName {
+    ghost Value = { List ℕ };
+
+    ghost view = { λ name. take name.len name.bytes };
+
+    ghost invariant = { λ name. record {
+      size : length name.bytes ≡ 32;
+      within : name.len ≤ 32;
+      short : is_short class (take name.len name.bytes) ≡ true;
+      rest : drop name.len name.bytes ≡ replicate (32 - name.len) 0;
+    } };
+
+    ghost inverse = { λ name. record { bytes = padded name; len = length name } };
+
+    ghost inverse_ok = { λ name h.
+        let count = length-take-le name.len name.bytes (subst (λ n. name.len ≤ n) (sym h.size) h.within) in
+        let zeros = ap (λ n. replicate (32 - n) 0) count ∙ sym h.rest in
+        let whole = ap (λ rest. take name.len name.bytes ++ rest) zeros ∙ take-append-drop name.len name.bytes in
+        λ i. record { bytes = whole i; len = count i } };
+}
+
+impl ShortName {
+    /// The bytes of the short form, without the zeros.
+    pub fn as_bytes(&self) -> &[u8]
+        ensures value { result.now ≡ self.now }
+        ensures short { is_short class result.now ≡ true }
+    {
+        &self.bytes[0..self.len as usize]
+    }
+
+    /// How many bytes the short form has: 1 to 32.
+    // Kept: Rust offers a `len` beside an `is_empty`, and that would be false of every short form.
+    pub fn length(&self) -> usize
+        ensures value { result ≡ length self.now }
+        ensures short { is_short class self.now ≡ true }
+    {
+        self.len as usize
+    }
 }

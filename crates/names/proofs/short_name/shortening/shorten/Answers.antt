@@ -1,44 +1,27 @@
-use Rattle.std.proofs.Common.{sym, arith}
-use Rattle.names.specs.Names.{class}
-use Rattle.names.proofs.Laws.{short_stays}
-use Rattle.names.proofs.Partway.{length_at_most, at_forbidden, at_dropped, at_kept, at_empty, at_end, at_end_short}
-use Rattle.names.proofs.short_name.shortening.shorten.Goals.{in-Dropped, in-Kept}
+use Rattle.std.proofs.Common.{◌≤◌, length, arith, refl}
+use Rattle.std.proofs.Math.Seq.{take-append_seam, drop-append_seam}
+use Rattle.std.proofs.lemmas.Bool.Decides.{nat_tests}
+use Rattle.std.proofs.lemmas.List.{length-append, length-replicate}
+use Rattle.names.specs.Names.{class, short}
+use Rattle.names.proofs.Laws.{short_is_short, short_stays}
 use Rattle.names.proofs.short_name.shortening.shorten.Goals as goal
-
-pub returns-in-Forbidden : goal.returns-in-Forbidden
-returns-in-Forbidden c = record {
-  answered = sym (at_forbidden class _ _ _ _ (sym c.if-not-length_fits.ensures) c.loop-byte.invariant c.loop-byte-test.true (sym c.in-Forbidden.ensures));
-  again = tt;
-}
-
-pub loop-byte-preserved : goal.loop-byte-preserved
-loop-byte-preserved c =
-    let fits = sym c.if-not-length_fits.ensures in
-    elim c.match-class_of.branch [
-      | in-Dropped w ↦ rw (w.bytes-is, w.len-is) (at_dropped class _ _ _ _ fits c.loop-byte.invariant c.loop-byte-test.true (sym w.in-Dropped.ensures))
-      | in-Kept w ↦ rw (w.bytes-is, w.len-is) (at_kept class _ _ _ _ fits c.loop-byte.invariant c.loop-byte-test.true (sym w.in-Kept.ensures))
-    ]
-
-pub returns-then-len-eq0 : goal.returns-then-len-eq0
-returns-then-len-eq0 c = record {
-  answered = sym (at_empty class _ _ _ _ (sym c.if-not-length_fits.ensures) c.loop-byte.invariant (omega arith) c.if-len-eq0.true);
-  again = tt;
-}
 
 pub invariant_of-result : goal.invariant_of-result
 invariant_of-result c =
-    let fits = sym c.if-not-length_fits.ensures in
-    let most = length_at_most c.args.raw.now fits in
-    record {
-      within = omega arith;
-      short = at_end_short class _ _ _ _ fits c.loop-byte.invariant (omega arith) (omega arith);
-      rest = c.loop-byte.invariant.zeros;
+    let good = short_is_short class c.args.raw.now (grind (arith, nat_tests)) in
+    let fits : length (short class c.args.raw.now) ≤ 32 = grind (arith, nat_tests) in
+    rw (c.kept_bytes-len.ensures, take-append_seam, drop-append_seam) record {
+      size = simp (length-append, length-replicate) (omega arith);
+      within = fits;
+      short = good;
+      rest = refl;
     }
 
-pub returns : goal.returns
-returns c =
-    let fits = sym c.if-not-length_fits.ensures in
-    record {
-      answered = sym (at_end class _ _ _ _ fits c.loop-byte.invariant (omega arith) (omega arith));
-      again = short_stays class _ (at_end_short class _ _ _ _ fits c.loop-byte.invariant (omega arith) (omega arith));
-    }
+pub returns-clause-short : goal.returns-clause-short
+returns-clause-short c =
+    rw (c.kept_bytes-len.ensures, take-append_seam) (short_is_short class c.args.raw.now (grind (arith, nat_tests)))
+
+pub returns-clause-again : goal.returns-clause-again
+returns-clause-again c =
+    let good = short_is_short class c.args.raw.now (grind (arith, nat_tests)) in
+    rw (c.kept_bytes-len.ensures, take-append_seam) (short_stays class (short class c.args.raw.now) good)
