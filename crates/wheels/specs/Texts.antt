@@ -1,15 +1,6 @@
--- Lines of text, and how bytes are printed.
-use Rattle.std.specs.Prelude.{◌≡◌, ℕ, ◌+◌, ◌/◌, ◌%◌, Bool, true, cond, not, ◌&&◌, ◌||◌, List, [], ◌∷◌, take, drop, ◌==◌, nat_le}
+-- How bytes are printed.
+use Rattle.std.specs.Prelude.{ℕ, ◌/◌, ◌%◌, Bool, true, cond, not, ◌&&◌, ◌||◌, List, [], ◌∷◌, ◌==◌, nat_le}
 use Rattle.std.specs.Fmt.{digit_glyph}
-
--- how many bytes stand before the first newline
-abbrev pub line_length : List ℕ → ℕ
-line_length [] = 0
-line_length (b ∷ bs) = cond (b == 10) 0 (line_length bs + 1)
-
--- the first line of a text, without its end, and what follows the end
-abbrev pub FirstLine : List ℕ → List ℕ → List ℕ → Type 0
-FirstLine text line rest = (line ≡ take (line_length text) text) × (rest ≡ drop (line_length text + 1) text)
 
 -- printable ASCII, but for the percent sign and the quote
 abbrev pub plain : ℕ → Bool

@@ -1,11 +1,12 @@
 // Places sensor names: the short form of each, its two placements, and where each placement belongs in a map. Says what a packed image holds.
 #![tactic(auto)]
 
+ghost use Rattle.std.specs.Iterator.{IsFinite};
+
 mod command;
 mod fault;
 mod image_report;
-mod lines;
-mod location;
+mod layout;
 mod numbers;
 mod quoted;
 mod report;
@@ -13,10 +14,10 @@ mod request;
 
 use command::Command;
 use image_report::report_image;
-use index::{Map, Settings};
-use lines::Lines;
+use index::Map;
+use layout::Layout;
 use quoted::Quoted;
-use report::{report, report_setup};
+use report::report;
 use request::{Request, Source};
 use std::io::Read;
 use std::process::ExitCode;
@@ -73,7 +74,7 @@ fn run(rt: &HostRuntime, request: &Request) -> io::Result<ExitCode> {
     match request.settings() {
         Ok(settings) => {
             let map = Map::fill(&request.partitions);
-            place(rt, &settings, &map, request.source)?;
+            place(rt, &Layout { settings, map }, request.source)?;
             Ok(ExitCode::SUCCESS)
         }
         Err(refusal) => {
@@ -88,29 +89,37 @@ fn run(rt: &HostRuntime, request: &Request) -> io::Result<ExitCode> {
     }
 }
 
-fn place(rt: &HostRuntime, settings: &Settings, map: &Map, source: Source) -> io::Result<()> {
-    report_setup(rt, settings, map)?;
+fn place(rt: &HostRuntime, layout: &Layout, source: Source) -> io::Result<()> {
+    println!(rt; "{layout}\n")?;
     match source {
-        Source::Examples => place_examples(rt, settings, map),
-        Source::Input => place_input(rt, settings, map),
+        Source::Examples => place_all(rt, layout, EXAMPLE_IDS.iter().copied()),
+        Source::Input => {
+            let mut input = Vec::new(rt.alloc());
+            rt.stdin().read_to_end(&mut input)?;
+            let lines = input.split_inclusive(|byte| *byte == b'\n');
+            place_all(rt, layout, lines.map(without_end))
+        }
     }
 }
 
-fn place_examples(rt: &HostRuntime, settings: &Settings, map: &Map) -> io::Result<()> {
-    for raw in EXAMPLE_IDS {
-        report(rt, settings, map, raw)?;
+/// Places sensor IDs.
+fn place_all<'a, I: Iterator<Item = &'a [u8]> + Drop>(
+    rt: &impl Print,
+    layout: &Layout,
+    ids: I,
+) -> io::Result<()>
+    requires can { I.can_next ids }
+    requires ends { IsFinite (I.remaining ids) }
+{
+    for raw in ids {
+        report(rt, layout, raw)?;
     }
     Ok(())
 }
 
-/// Places the IDs of the standard input, which are its lines.
-fn place_input(rt: &HostRuntime, settings: &Settings, map: &Map) -> io::Result<()> {
-    let mut input = Vec::new(rt.alloc());
-    rt.stdin().read_to_end(&mut input)?;
-    for raw in Lines::of(input.as_slice()) {
-        report(rt, settings, map, raw)?;
-    }
-    Ok(())
+/// A line without its end.
+fn without_end(line: &[u8]) -> &[u8] {
+    line.strip_suffix(b"\n").unwrap_or(line)
 }
 
 /// Says what the packed image in a file holds. The file is read whole and never written.

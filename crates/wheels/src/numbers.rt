@@ -1,5 +1,4 @@
 ghost use Rattle.std.specs.Prelude.{◌≡◌, min};
-ghost use Rattle.std.specs.Str.{all_ascii_digits};
 ghost use Rattle.wheels.specs.Readings.{is_numeral, number_reading, partition_reading};
 
 use crate::fault::Problem;
@@ -14,24 +13,16 @@ pub(crate) fn read_number(word: &str) -> Result<u64, Problem>
     if !is_numeral(word) {
         return Err(Problem::NoNumber);
     }
-    match word.parse::<u64>() {
-        Ok(n) => Ok(n),
-        Err(_) => Err(Problem::TooLarge),
-    }
+    word.parse::<u64>().map_err(|_| Problem::TooLarge)
 }
 
 /// The partition whose number a word writes.
 pub(crate) fn read_partition(word: &str) -> Result<u16, Problem>
     ensures { result ≡ partition_reading word.now }
 {
-    match read_number(word) {
-        Ok(n) => {
-            if n >= u64::from(PARTITIONS) {
-                return Err(Problem::NoPartition);
-            }
-            Ok(n as u16)
-        }
-        Err(problem) => Err(problem),
+    match u16::try_from(read_number(word)?) {
+        Ok(partition) if partition < PARTITIONS => Ok(partition),
+        _ => Err(Problem::NoPartition),
     }
 }
 
@@ -39,23 +30,12 @@ pub(crate) fn read_partition(word: &str) -> Result<u16, Problem>
 pub(crate) fn saturated(n: u64) -> u8
     ensures { result ≡ min n 255 }
 {
-    n.min(255) as u8
+    u8::try_from(n).unwrap_or(u8::MAX)
 }
 
 /// Whether a word has a byte and all its bytes are decimal digits.
 fn is_numeral(word: &str) -> bool
     ensures { result ≡ is_numeral word.now }
 {
-    !word.is_empty() && all_digits(word.as_bytes())
-}
-
-fn all_digits(bytes: &[u8]) -> bool
-    ensures { result ≡ all_ascii_digits bytes.now }
-{
-    for byte in bytes {
-        if !byte.is_ascii_digit() {
-            return false;
-        }
-    }
-    true
+    !word.is_empty() && word.as_bytes().iter().all(u8::is_ascii_digit)
 }

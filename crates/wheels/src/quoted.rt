@@ -1,7 +1,7 @@
-ghost use Rattle.std.specs.Prelude.{◌≡◌, ◌<◌, true, Some};
-ghost use Rattle.std.specs.Fmt.{WritesOnOk, digit_glyph};
-ghost use Rattle.wheels.specs.Texts.{alphanumeric, byte_text, plain};
-ghost use Rattle.wheels.specs.Escapes.{as_itself, escaped, one_word, quoted};
+ghost use Rattle.std.specs.Prelude.{◌≡◌, ℕ, ◌<◌, Bool, true, Some};
+ghost use Rattle.std.specs.Fmt.{WritesOnOk};
+ghost use Rattle.wheels.specs.Texts.{alphanumeric, plain};
+ghost use Rattle.wheels.specs.Escapes.{escaped, one_word, quoted};
 
 use std::fmt;
 
@@ -14,7 +14,7 @@ impl fmt::Display for Quoted<'_> {
 
     fn fmt<W: fmt::Write>(&self, f: &mut fmt::Formatter<W>) -> fmt::Result {
         f.write_str("\"")?;
-        write_escaped(Style::Quotes, self.0, f)?;
+        write_escaped(self.0, is_plain, f)?;
         f.write_str("\"")
     }
 }
@@ -27,62 +27,28 @@ impl fmt::Display for Word<'_> {
     ghost output = { λ text. Some (one_word text.0.now) };
 
     fn fmt<W: fmt::Write>(&self, f: &mut fmt::Formatter<W>) -> fmt::Result {
-        write_escaped(Style::Word, self.0, f)
+        write_escaped(self.0, is_alphanumeric, f)
     }
 }
 
-/// Where bytes are written, which says which of them stand as themselves.
-#[derive(Clone, Copy)]
-pub(crate) enum Style {
-    Quotes,
-    Word,
-}
-
-fn write_escaped<W: fmt::Write>(
-    style: Style,
+/// Writes bytes: one that `stands` says so of as itself, every other as `%` and two hexadecimal digits.
+fn write_escaped<W: fmt::Write, F: Fn(u8) -> bool>(
     bytes: &[u8],
+    stands: F,
     f: &mut fmt::Formatter<W>,
 ) -> fmt::Result
-    ensures { WritesOnOk W.Write.write_str_gives f.old result (escaped style bytes.now) f.new }
+    requires callable { F.IsAlwaysCallable stands }
+    requires ascii { (b : ℕ) → F.post stands b true → b < 128 }
+    ensures { (p : ℕ → Bool) → ((b : ℕ) (r : Bool) → F.post stands b r → r ≡ p b) → WritesOnOk W.Write.write_str_gives f.old result (escaped p bytes.now) f.new }
 {
     for byte in bytes {
-        write_byte(*byte, stands_as_itself(style, *byte), f)?;
+        if stands(*byte) {
+            f.write_char(*byte as char)?;
+        } else {
+            write!(f, "%{byte:02X}")?;
+        }
     }
     Ok(())
-}
-
-/// Writes a byte as itself, or as `%` and two hexadecimal digits.
-fn write_byte<W: fmt::Write>(byte: u8, stands: bool, f: &mut fmt::Formatter<W>) -> fmt::Result
-    requires { stands ≡ true → byte < 128 }
-    ensures { WritesOnOk W.Write.write_str_gives f.old result (byte_text stands byte) f.new }
-{
-    if stands {
-        return f.write_char(byte as char);
-    }
-    f.write_char('%')?;
-    f.write_char(hex_digit(byte / 16))?;
-    f.write_char(hex_digit(byte % 16))
-}
-
-fn hex_digit(value: u8) -> char
-    requires { value < 16 }
-    ensures { result ≡ digit_glyph true value }
-{
-    if value < 10 {
-        (b'0' + value) as char
-    } else {
-        (b'A' + (value - 10)) as char
-    }
-}
-
-fn stands_as_itself(style: Style, byte: u8) -> bool
-    ensures value { result ≡ as_itself style byte }
-    ensures ascii { result ≡ true → byte < 128 }
-{
-    match style {
-        Style::Quotes => is_plain(byte),
-        Style::Word => is_alphanumeric(byte),
-    }
 }
 
 fn is_plain(byte: u8) -> bool
@@ -96,5 +62,5 @@ fn is_alphanumeric(byte: u8) -> bool
     ensures value { result ≡ alphanumeric byte }
     ensures ascii { result ≡ true → byte < 128 }
 {
-    matches!(byte, b'0'..=b'9' | b'A'..=b'Z' | b'a'..=b'z')
+    byte.is_ascii_alphanumeric()
 }

@@ -76,10 +76,7 @@ impl Request {
 fn number(word: &str) -> Result<u64, Fault<'_>>
     ensures { elim result [ Ok n ↦ number_reading word.now ≡ Ok n | Err fault ↦ (number_reading word.now ≡ Err fault.problem) × (fault.word.now ≡ word.now) ] }
 {
-    match read_number(word) {
-        Ok(n) => Ok(n),
-        Err(problem) => Err(problem.of(word)),
-    }
+    read_number(word).map_err(|problem| problem.of(word))
 }
 
 /// The partitions that are listed between commas.
@@ -88,12 +85,8 @@ fn partition_set(list: &str) -> Result<PartitionSet, Fault<'_>>
 {
     let mut set = PartitionSet::new();
     for word in list.split(',') {
-        match read_partition(word) {
-            Ok(partition) => {
-                set.add(partition);
-            }
-            Err(problem) => return Err(problem.of(word)),
-        }
+        let partition = read_partition(word).map_err(|problem| problem.of(word))?;
+        set.add(partition);
     }
     Ok(set)
 }

@@ -1,4 +1,4 @@
-use Rattle.std.proofs.Common.{◌≡◌, ℕ, List, [], ◌∷◌, map, Ok, sym, ap, ◌∙◌, lit<, Bor}
+use Rattle.std.proofs.Common.{◌≡◌, ℕ, List, [], ◌∷◌, map, Ok, sym, ap, ◌∙◌, lit<, Bor, rules}
 use mathlib.Core.List.{map-append}
 use Rattle.std.proofs.iter.runs.Made.{run_of_exit, seen}
 use Rattle.std.specs.List.{join_with_byte}
@@ -8,7 +8,7 @@ use Rattle.wheels.proofs.request.partition_set.Goals as goal
 
 pub loop-word-preserved : goal.loop-word-preserved
 loop-word-preserved c =
-    let reads : partition_reading c.in-Some.word.now ≡ Ok c.in-Ok.partition = sym c.read_partition.ensures ∙ c.in-Ok.is in
+    let reads : partition_reading c.in-Some.word.now ≡ Ok c.in_ok-partition.partition = sym c.read_partition.ensures ∙ search rules in
     let words : List (List ℕ) = map (λ (w : Bor (List ℕ)). w.now) c.loop-word.yielded in
     rw (map-append (λ (w : Bor (List ℕ)). w.now) c.loop-word.yielded (c.in-Some.word ∷ [])) (
       all_write_more words c.in-Some.word.now _ reads c.loop-word.invariant.0,
