@@ -5,7 +5,7 @@ mod display;
 
 use display::Digest;
 use index::{Map, PartitionSet, Settings};
-use names::shorten;
+use names::{NameRefusal, shorten};
 use placement::md5;
 use std::io;
 
@@ -65,10 +65,8 @@ fn filled(partitions: &[u16]) -> Map {
 
 fn ranges(rt: &impl Print, map: &Map) -> io::Result<()> {
     print!(rt; "depths in {map}:")?;
-    for p in 0..512 {
-        if let Some(depth) = map.depth(p) {
-            print!(rt; " {depth}")?;
-        }
+    for depth in (0..512).filter_map(|p| map.depth(p)) {
+        print!(rt; " {depth}")?;
     }
     println!(rt; "")?;
     if let Some(range) = map.range(5) {
@@ -100,11 +98,7 @@ fn fillings(rt: &impl Print) -> io::Result<()> {
 
 fn servers(rt: &impl Print) -> io::Result<()> {
     if let Ok(settings) = Settings::new(5, 3, 8000) {
-        let [a, b, c] = [
-            settings.holder(14),
-            settings.holder(15),
-            settings.holder(20),
-        ];
+        let [a, b, c] = [14, 15, 20].map(|p| settings.holder(p));
         println!(rt; "with 5 servers and 3 partitions each, 14 15 20 are held by {a} {b} {c}")?;
     }
     Ok(())
@@ -135,44 +129,34 @@ fn settings(rt: &impl Print) -> io::Result<()> {
 
 fn same_names(rt: &impl Print) -> io::Result<()> {
     for (one, other) in [(" A 1", "A1"), ("0A1", "A1"), ("a1", "A1")] {
-        println!(rt;
-            "\"{one}\" is the name \"{other}\": {}",
-            same_name(one.as_bytes(), other.as_bytes())
-        )?;
+        let same = is_same_name(one.as_bytes(), other.as_bytes()).unwrap_or(false);
+        println!(rt; "\"{one}\" is the name \"{other}\": {same}")?;
     }
     Ok(())
 }
 
-fn same_name(one: &[u8], other: &[u8]) -> bool {
-    let Ok(a) = shorten(one) else {
-        return false;
-    };
-    let Ok(b) = shorten(other) else {
-        return false;
-    };
-    a == b
+/// Whether two names are the same one, or why the first of them that is refused is none.
+fn is_same_name(one: &[u8], other: &[u8]) -> Result<bool, NameRefusal> {
+    Ok(shorten(one)? == shorten(other)?)
 }
 
 /// Names at the limits, and names that have more than one fault.
 fn refusals(rt: &impl Print) -> io::Result<()> {
-    shortening(rt, "no byte", b"")?;
-    shortening(rt, "32 bytes", b"0123456789ABCDEF0123456789ABCDEF")?;
-    shortening(rt, "33 bytes", b"0123456789ABCDEF0123456789ABCDEF0")?;
-    shortening(
-        rt,
-        "33 bytes with a slash",
-        b"0123456789ABCDEF/123456789ABCDEF0",
-    )?;
-    shortening(rt, "a slash", b"3A/7F")?;
-    shortening(rt, "a byte 0", b"3A\x007F")?;
-    shortening(rt, "spaces and a slash", b"  / ")?;
-    shortening(rt, "only spaces", b"    ")?;
-    shortening(rt, "spaces and a letter", b"  Z ")
-}
-
-fn shortening(rt: &impl Print, what: &str, raw: &[u8]) -> io::Result<()> {
-    match shorten(raw) {
-        Ok(name) => println!(rt; "{what}: accepted, {} in the short form", name.length()),
-        Err(refusal) => println!(rt; "{what}: refused {}", refusal.number()),
+    for (what, raw) in [
+        ("no byte", ""),
+        ("32 bytes", "0123456789ABCDEF0123456789ABCDEF"),
+        ("33 bytes", "0123456789ABCDEF0123456789ABCDEF0"),
+        ("33 bytes with a slash", "0123456789ABCDEF/123456789ABCDEF0"),
+        ("a slash", "3A/7F"),
+        ("a byte 0", "3A\x007F"),
+        ("spaces and a slash", "  / "),
+        ("only spaces", "    "),
+        ("spaces and a letter", "  Z "),
+    ] {
+        match shorten(raw.as_bytes()) {
+            Ok(name) => println!(rt; "{what}: accepted, {} in the short form", name.length())?,
+            Err(refusal) => println!(rt; "{what}: refused {}", refusal.number())?,
+        }
     }
+    Ok(())
 }
