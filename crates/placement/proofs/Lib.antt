@@ -1,3 +1,4 @@
+pub mod Chunks
 pub mod Operations
 pub mod Tail
 pub mod Blocks

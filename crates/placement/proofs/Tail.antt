@@ -1,9 +1,9 @@
 -- What the last blocks hold once they are written.
-use Rattle.std.proofs.Common.{◌≡◌, ℕ, suc, ◌+◌, ◌-◌, ◌*◌, ◌/◌, ◌%◌, ◌^◌, ◌<◌, ◌≤◌, List, [], ◌∷◌, ◌++◌, length, get_or, take, set, replicate, sym, refl, ap, ◌∙◌, subst, zero-add, arith}
+use Rattle.std.proofs.Common.{◌≡◌, ℕ, suc, ◌+◌, ◌-◌, ◌*◌, ◌/◌, ◌%◌, ◌^◌, ◌<◌, ◌≤◌, List, [], ◌∷◌, ◌++◌, length, take, drop, set, replicate, sym, refl, ap, ◌∙◌, subst, zero-add, arith}
 use native.Mathlib.Nat.{div-div-eq-div-mul}
-use lib.Seq.{paste}
+use borrow.Rule.Slice.PartMut.{put_mid}
 use Rattle.std.proofs.lemmas.List.{append_assoc, set_at, take_at, length-append, length-replicate, replicate-append-replicate, drop-replicate, take_all}
-use Rattle.std.proofs.lemmas.List.Edits.{paste_all, paste_more, take-paste}
+use Rattle.std.proofs.lemmas.Slice.{take-put_mid}
 use Rattle.placement.specs.Rfc1321.{low_order, zeros, padding}
 
 -- the bytes as `to_le_bytes` gives them
@@ -19,23 +19,16 @@ pub length_padding : (n : ℕ) → length (padding n) ≡ zeros n + 9
 length_padding n =
     ap suc (length-append (replicate (zeros n) 0) (low_order 8 ((n * 8) % 2 ^ 64)) ∙ ap (λ (k : ℕ). k + 8) (length-replicate (zeros n) 0)) ∙ omega arith
 
--- one more byte is copied to the front
-pub front_more : (d s : List ℕ) (i : ℕ) → i < length d → i < length s → set (paste d 0 s i) i (get_or s i 0) ≡ paste d 0 s (i + 1)
-front_more d s i h k =
-    subst (λ (n : ℕ). set (paste d 0 s i) n (get_or s i 0) ≡ paste d 0 s (i + 1)) (zero-add i)
-    (paste_more d 0 s i 0 (omega (arith, zero-add i)) k)
-
 -- a number of zeros from which one is taken
 fewer : (n k : ℕ) → n ≡ suc k → replicate {A = ℕ} n 0 ≡ 0 ∷ replicate k 0
 fewer n k e = ap (λ (j : ℕ). replicate {A = ℕ} j 0) e
 
 -- the rest of the message and the byte 128 stand in front of zeros
 marked : (rest : List ℕ) (size : ℕ) → length rest < size
-    → set (paste (replicate size 0) 0 rest (length rest)) (length rest) 128 ≡ rest ++ 128 ∷ replicate (size - length rest - 1) 0
+    → set (rest ++ drop (length rest) (replicate size 0)) (length rest) 128 ≡ rest ++ 128 ∷ replicate (size - length rest - 1) 0
 marked rest size h =
-    ap (λ (x : List ℕ). set x (length rest) 128)
-    (paste_all (replicate size 0) 0 rest (length rest) refl
-    ∙ ap (λ (x : List ℕ). rest ++ x) (drop-replicate (0 + length rest) size 0 ∙ fewer (size - (0 + length rest)) (size - length rest - 1) (omega arith)))
+    ap (λ (x : List ℕ). set (rest ++ x) (length rest) 128)
+    (drop-replicate (length rest) size 0 ∙ fewer (size - length rest) (size - length rest - 1) (omega arith))
     ∙ set_at rest 0 (replicate (size - length rest - 1) 0) 128 (length rest) refl
 
 -- that is as long as before
@@ -53,26 +46,21 @@ front rest size at h le =
     ∙ ap (take at) (sym (append_assoc rest (128 ∷ replicate (at - length rest - 1) 0) (replicate (size - at) 0)))
     ∙ take_at (rest ++ 128 ∷ replicate (at - length rest - 1) 0) (replicate (size - at) 0) at (length_marked rest at h)
 
--- and then the 8 bytes of the length at the place `at`
-written : (rest bits : List ℕ) (size at : ℕ) → length rest < at → at + 8 ≤ size → length bits ≡ 8
-    → take (at + 8) (paste (set (paste (replicate size 0) 0 rest (length rest)) (length rest) 128) at bits 8)
-    ≡ rest ++ ((128 ∷ replicate (at - length rest - 1) 0) ++ bits)
-written rest bits size at h le e =
-    ap (λ (x : List ℕ). take (at + 8) (paste x at bits 8)) (marked rest size (omega arith))
-    ∙ take-paste (rest ++ 128 ∷ replicate (size - length rest - 1) 0) at bits 8
-    (subst (λ (k : ℕ). at ≤ k) (sym (length_marked rest size (omega arith))) (omega arith)) (omega arith)
-    ∙ ap (λ (x : List ℕ). x ++ take 8 bits) (front rest size at h (omega arith))
-    ∙ ap (λ (x : List ℕ). (rest ++ 128 ∷ replicate (at - length rest - 1) 0) ++ x) (take_all 8 bits (omega arith))
-    ∙ append_assoc rest (128 ∷ replicate (at - length rest - 1) 0) bits
-
--- the rest and the padding stand in front
-pub padded_rest : (rest bits : List ℕ) (n at : ℕ) → length rest ≡ n % 64 → at ≡ length rest + 1 + zeros n → bits ≡ low_order 8 ((n * 8) % 2 ^ 64)
-    → take (length (rest ++ padding n)) (paste (set (paste (replicate 128 0) 0 rest (length rest)) (length rest) 128) at bits 8)
-    ≡ rest ++ padding n
-padded_rest rest bits n at e h b =
-    let long : length (rest ++ padding n) ≡ at + 8 = omega (arith, length-append rest (padding n), length_padding n) in
-    let between : at - length rest - 1 ≡ zeros n = omega arith in
-    ap (λ (k : ℕ). take k (paste (set (paste (replicate 128 0) 0 rest (length rest)) (length rest) 128) at bits 8)) long
-    ∙ written rest bits 128 at (omega arith) (omega arith) (ap length b)
+-- what was written: the rest and the padding stand in front
+pub padded_rest : (rest start whole bits : List ℕ) (n end : ℕ) → length rest ≡ n % 64 → end ≡ length rest + length (padding n)
+    → start ≡ rest → whole ≡ set (start ++ drop (length rest) (replicate 128 0)) (length rest) 128 → bits ≡ low_order 8 ((n * 8) % 2 ^ 64)
+    → take (length rest + length (padding n)) (put_mid (end - 8) (end - (end - 8)) whole bits) ≡ rest ++ padding n
+padded_rest rest start whole bits n end h e s w b =
+    let l = length rest in
+    let at = end - 8 in
+    let long : end ≡ l + (zeros n + 9) = omega (arith, length_padding n) in
+    let marks : whole ≡ rest ++ 128 ∷ replicate (128 - l - 1) 0 =
+    w ∙ ap (λ (x : List ℕ). set (x ++ drop l (replicate 128 0)) l 128) s ∙ marked rest 128 (omega arith) in
+    let eight : length bits ≡ 8 = ap length b in
+    let between : at - l - 1 ≡ zeros n = omega arith in
+    take-put_mid at (end - at) whole bits (l + length (padding n)) (omega arith)
+    (omega (arith, ap length marks, length_marked rest 128 (omega arith)))
+    ∙ ap (λ (x : List ℕ). take at x ++ bits) marks ∙ ap (λ (x : List ℕ). x ++ bits) (front rest 128 at (omega arith) (omega arith))
+    ∙ append_assoc rest (128 ∷ replicate (at - l - 1) 0) bits
     ∙ ap (λ (k : ℕ). rest ++ ((128 ∷ replicate {A = ℕ} k 0) ++ bits)) between
     ∙ ap (λ (x : List ℕ). rest ++ ((128 ∷ replicate {A = ℕ} (zeros n) 0) ++ x)) b

@@ -1,9 +1,11 @@
 // Placements: fixed functions from byte strings to numbers of 32 bits, and the MD5 message digest.
 #![tactic(auto)]
 
-ghost use Rattle.std.specs.Prelude.{◌≡◌, ℕ, ◌^◌, ◌<◌, List, slice_index};
+ghost use Rattle.std.specs.Prelude.{◌≡◌, ℕ, ◌^◌, ◌<◌, List};
 ghost use Rattle.placement.specs.Placements.{leading, digest_placement, prefix_placement, leading_small};
 ghost use Rattle.placement.specs.Rfc1321.{digest};
+
+use std::array;
 
 mod rfc1321;
 
@@ -23,7 +25,7 @@ pub trait Placement {
 }
 
 /// The first four bytes of the name's MD5 digest, the most significant first.
-#[derive(Clone, Copy)]
+#[derive(Clone, Copy, PartialEq, Eq, Debug, Default)]
 pub struct DigestPlacement;
 
 impl Placement for DigestPlacement {
@@ -37,7 +39,7 @@ impl Placement for DigestPlacement {
 }
 
 /// The first four bytes of the name, the most significant first, with 0 for a missing byte.
-#[derive(Clone, Copy)]
+#[derive(Clone, Copy, PartialEq, Eq, Debug, Default)]
 pub struct PrefixPlacement;
 
 impl Placement for PrefixPlacement {
@@ -54,20 +56,5 @@ impl Placement for PrefixPlacement {
 fn first_four(bytes: &[u8]) -> u32
     ensures { result ≡ leading bytes.now }
 {
-    u32::from_be_bytes([
-        byte_or_zero(bytes, 0),
-        byte_or_zero(bytes, 1),
-        byte_or_zero(bytes, 2),
-        byte_or_zero(bytes, 3),
-    ])
-}
-
-// Byte `i`, or 0 where there is none.
-fn byte_or_zero(bytes: &[u8], i: usize) -> u8
-    ensures { result ≡ slice_index bytes.now i }
-{
-    match bytes.get(i) {
-        Some(b) => *b,
-        None => 0,
-    }
+    u32::from_be_bytes(array::from_fn(|i| bytes.get(i).copied().unwrap_or(0)))
 }

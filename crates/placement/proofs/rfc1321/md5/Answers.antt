@@ -4,4 +4,4 @@ use Rattle.placement.proofs.rfc1321.md5.Goals as goal
 
 pub returns : goal.returns
 unfolding digest
-returns c = c.output_of.ensures ∙ ap output c.padded_blocks.ensures
+returns c = c.output.ensures ∙ ap output c.padded_blocks.ensures
