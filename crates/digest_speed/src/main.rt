@@ -2,49 +2,55 @@
 #![tactic(auto)]
 
 use placement::md5;
-use std::time::Instant;
-use std::{env, io};
+use std::time::{Duration, Instant};
+use std::{env, fmt, io};
+
+// A digest, which prints in hexadecimal.
+#[derive(Clone, Copy)]
+struct Digest([u8; 16]);
+
+impl fmt::Display for Digest {
+    fn fmt<W: fmt::Write>(&self, f: &mut fmt::Formatter<W>) -> fmt::Result {
+        for byte in &self.0 {
+            write!(f, "{byte:02x}")?;
+        }
+        Ok(())
+    }
+}
 
 // The digest of a million times the letter a, in hexadecimal.
 fn show_million(rt: &HostRuntime) -> anyhow::Result<()> {
     let message = vec![in rt.alloc(); b'a'; 1_000_000]?;
-    for b in md5(&message).iter() {
-        let x = *b;
-        print!(rt; "{x:02x}")?;
-    }
-    println!(rt; "")?;
+    let digest = Digest(md5(&message));
+    println!(rt; "{digest}")?;
     Ok(())
 }
 
-// The nanoseconds that `times` digests take; each message begins with bytes of the digest before it.
-fn time(rt: &HostRuntime, message: &mut [u8], times: u32) -> io::Result<u64> {
+// How long `times` digests take; each message begins with bytes of the digest before it.
+fn time(rt: &HostRuntime, message: &mut [u8], times: u32) -> io::Result<Duration> {
     let start = Instant::now(rt)?;
     for _ in 0..times {
         let digest = md5(message);
-        for k in 0..8 {
-            if k < message.len() {
-                message[k] = digest[k];
-            }
+        for (byte, next) in message.iter_mut().zip(&digest[..8]) {
+            *byte = *next;
         }
     }
-    let spent = start.elapsed(rt)?;
-    let seconds = spent.as_secs().wrapping_mul(1_000_000_000);
-    Ok(seconds.wrapping_add(u64::from(spent.subsec_nanos())))
+    start.elapsed(rt)
 }
 
-const RUNS: u64 = 200;
+const RUNS: u32 = 200;
 
-// What runs of the same work took, in nanoseconds.
-#[derive(Clone, Copy)]
+// How long runs of the same work took.
+#[derive(Clone, Copy, Debug)]
 struct Spent {
-    least: u64,
-    mean: u64,
+    least: Duration,
+    mean: Duration,
 }
 
 // The least and the mean time of the runs.
 fn repeat(rt: &HostRuntime, message: &mut [u8], times: u32) -> io::Result<Spent> {
-    let mut least = u64::MAX;
-    let mut total = 0u64;
+    let mut least = Duration::MAX;
+    let mut total = Duration::ZERO;
     for _ in 0..RUNS {
         let run = time(rt, message, times)?;
         least = least.min(run);
@@ -56,13 +62,9 @@ fn repeat(rt: &HostRuntime, message: &mut [u8], times: u32) -> io::Result<Spent>
     })
 }
 
-// The rate at which 1 MiB is digested in so many nanoseconds; 0 where the clock did not move.
-fn rate(nanoseconds: u64) -> u64 {
-    if nanoseconds > 0 {
-        1_048_576_000 / nanoseconds
-    } else {
-        0
-    }
+// The rate at which 1 MiB is digested in such a time, in MB/s; 0 where the clock did not move.
+fn rate(spent: Duration) -> u128 {
+    1_048_576_000u128.checked_div(spent.as_nanos()).unwrap_or(0)
 }
 
 fn measure(rt: &HostRuntime) -> anyhow::Result<()> {
@@ -70,8 +72,8 @@ fn measure(rt: &HostRuntime) -> anyhow::Result<()> {
     let each = repeat(rt, &mut short, 10_000)?;
     println!(rt;
         "8 bytes: mean {} ns, least {} ns",
-        each.mean / 10_000,
-        each.least / 10_000
+        (each.mean / 10_000).as_nanos(),
+        (each.least / 10_000).as_nanos()
     )?;
     let mut long = vec![in rt.alloc(); 0u8; 1_048_576]?;
     let whole = repeat(rt, &mut long, 1)?;
@@ -84,9 +86,7 @@ fn measure(rt: &HostRuntime) -> anyhow::Result<()> {
 }
 
 fn main(rt: HostRuntime) -> anyhow::Result<()> {
-    let mut args = env::args(&rt)?;
-    let _ = args.next();
-    if args.next().is_some() {
+    if env::args(&rt)?.nth(1).is_some() {
         return measure(&rt);
     }
     show_million(&rt)

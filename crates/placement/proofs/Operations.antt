@@ -69,10 +69,12 @@ operation_is x i r w {y = y} {t = t} {s = s} er ef ey et es e =
     (e ∙ ap (λ (q : ℕ). mixed w.0 w.1 q y t s) (ef ∙ ap (λ (q : ℕ). auxiliary q w.1 w.2 w.3) (sym er))
     ∙ ap (λ (q : ℕ). mixed w.0 w.1 g q t s) ey ∙ ap (λ (q : ℕ). mixed w.0 w.1 g k q s) et ∙ ap (λ (q : ℕ). mixed w.0 w.1 g k (sine i) q) es)
 
--- one more operation
-pub one_more : (x : List ℕ) (i n j : ℕ) (w v r : Buffer) → v ≡ operations x i n w → j ≡ i + n → r ≡ operation x j v → r ≡ operations x i (suc n) w
+-- four operations
+pub four : (x : List ℕ) (i : ℕ) (w : Buffer) → operations x i 4 w ≡ operation x (i + 3) (operation x (i + 2) (operation x (i + 1) (operation x i w)))
 unfolding operations
-one_more x i n j w v r h e k = k ∙ ap (λ (q : ℕ). operation x q v) e ∙ ap (operation x (i + n)) h
+four x i w =
+    let first : i + 0 ≡ i = omega arith in
+    ap (λ (k : ℕ). operation x (i + 3) (operation x (i + 2) (operation x (i + 1) (operation x k w)))) first
 
 -- n more operations
 pub more : (x : List ℕ) (i m n j : ℕ) (w : Buffer) → j ≡ i + m → operations x j n (operations x i m w) ≡ operations x i (n + m) w

@@ -1,8 +1,8 @@
 -- What the last blocks hold once they are written.
-use Rattle.std.proofs.Common.{◌≡◌, ℕ, suc, ◌+◌, ◌-◌, ◌*◌, ◌/◌, ◌%◌, ◌^◌, ◌<◌, ◌≤◌, List, [], ◌∷◌, ◌++◌, length, take, drop, set, replicate, sym, refl, ap, ◌∙◌, subst, zero-add, arith}
+use Rattle.std.proofs.Common.{◌≡◌, ℕ, suc, ◌+◌, ◌-◌, ◌*◌, ◌/◌, ◌%◌, ◌^◌, ◌<◌, ◌≤◌, List, [], ◌∷◌, ◌++◌, length, take, drop, set, replicate, sym, refl, ap, ◌∙◌, arith}
 use native.Mathlib.Nat.{div-div-eq-div-mul}
 use borrow.Rule.Slice.PartMut.{put_mid}
-use Rattle.std.proofs.lemmas.List.{append_assoc, set_at, take_at, length-append, length-replicate, replicate-append-replicate, drop-replicate, take_all}
+use Rattle.std.proofs.lemmas.List.{append_assoc, set_at, take_at, length-append, length-replicate, replicate-append-replicate, drop-replicate}
 use Rattle.std.proofs.lemmas.Slice.{take-put_mid}
 use Rattle.placement.specs.Rfc1321.{low_order, zeros, padding}
 
@@ -47,15 +47,17 @@ front rest size at h le =
     ∙ take_at (rest ++ 128 ∷ replicate (at - length rest - 1) 0) (replicate (size - at) 0) at (length_marked rest at h)
 
 -- what was written: the rest and the padding stand in front
-pub padded_rest : (rest start whole bits : List ℕ) (n end : ℕ) → length rest ≡ n % 64 → end ≡ length rest + length (padding n)
-    → start ≡ rest → whole ≡ set (start ++ drop (length rest) (replicate 128 0)) (length rest) 128 → bits ≡ low_order 8 ((n * 8) % 2 ^ 64)
-    → take (length rest + length (padding n)) (put_mid (end - 8) (end - (end - 8)) whole bits) ≡ rest ++ padding n
-padded_rest rest start whole bits n end h e s w b =
+pub padded_rest : (rest start bits : List ℕ) (n end : ℕ) → length rest ≡ n % 64 → end ≡ length rest + length (padding n)
+    → start ≡ rest → bits ≡ low_order 8 ((n * 8) % 2 ^ 64)
+    → take (length rest + length (padding n)) (put_mid (end - 8) (end - (end - 8)) (set (start ++ drop (length rest) (replicate 128 0)) (length rest) 128) bits)
+    ≡ rest ++ padding n
+padded_rest rest start bits n end h e s b =
     let l = length rest in
     let at = end - 8 in
+    let whole = set (start ++ drop l (replicate 128 0)) l 128 in
     let long : end ≡ l + (zeros n + 9) = omega (arith, length_padding n) in
     let marks : whole ≡ rest ++ 128 ∷ replicate (128 - l - 1) 0 =
-    w ∙ ap (λ (x : List ℕ). set (x ++ drop l (replicate 128 0)) l 128) s ∙ marked rest 128 (omega arith) in
+    ap (λ (x : List ℕ). set (x ++ drop l (replicate 128 0)) l 128) s ∙ marked rest 128 (omega arith) in
     let eight : length bits ≡ 8 = ap length b in
     let between : at - l - 1 ≡ zeros n = omega arith in
     take-put_mid at (end - at) whole bits (l + length (padding n)) (omega arith)

@@ -1,5 +1,5 @@
 // The MD5 message digest, after RFC 1321, whose names it keeps: X is the block, T the table of sines, and [abcd k s i] an operation.
-ghost use Rattle.std.specs.Prelude.{◌≡◌, ℕ, ◌+◌, ◌*◌, ◌/◌, ◌%◌, ◌^◌, ◌<◌, ◌≤◌, ◌++◌, List, length, take, drop, refl, slice_set};
+ghost use Rattle.std.specs.Prelude.{◌≡◌, ℕ, ◌+◌, ◌*◌, ◌/◌, ◌%◌, ◌<◌, ◌≤◌, ◌++◌, List, length, take, drop, refl};
 ghost use Rattle.std.specs.List.{fold};
 ghost use Rattle.std.proofs.Common.{rules};
 ghost use Rattle.placement.specs.Rfc1321.{auxiliary, mixed, word, sines, word_numbers, shifts, Buffer, operation, operations, round, block, initial, blocks, padding, padded, output, digest};
@@ -195,6 +195,7 @@ struct Operands<'a> {
 
 impl Operands<'_> {
     // X[k].
+    #[tactic(auto, using(crate::proofs::Operations::word_of))]
     fn word(&self, k: usize) -> u32
         requires { k < 16 }
         ensures { result ≡ word self.now.x.now k }
@@ -225,6 +226,7 @@ impl Operands<'_> {
     // Four operations of a round, from operation `n` on, which make each of the words anew. Written out, as the round is: a loop is not
     // unrolled so far that the numbers k and s are constants (180 to 495 MB/s in place of 650).
     #[inline(always)]
+    #[tactic(auto, using(crate::proofs::Operations::four))]
     fn four_operations<R: Round>(&self, n: usize, words: Words) -> Words
         requires { n + 4 ≤ 16 }
         ensures { result ≡ operations self.now.x.now (16 * R.NUMBER + n + 1) 4 words }
@@ -237,6 +239,7 @@ impl Operands<'_> {
 
     // The sixteen operations of a round.
     #[inline(always)]
+    #[tactic(auto, using(crate::proofs::Operations::more))]
     fn round<R: Round>(&self, words: Words) -> Words
         ensures { result ≡ round self.now.x.now (R.NUMBER + 1) words }
     {
@@ -248,6 +251,7 @@ impl Operands<'_> {
 
     // The words after the block. Not inlined, so that the compiler does not know what the table holds.
     #[inline(never)]
+    #[tactic(auto, unfolding(crate::specs::Rfc1321::block))]
     fn block(&self, words: Words) -> Words
         ensures { result ≡ block self.now.x.now words }
     {
@@ -272,31 +276,18 @@ fn padded_end(rest: &[u8], n: usize) -> usize
     if rest.len() < 56 { 64 } else { 128 }
 }
 
-// The number of bits of a message of `n` bytes, modulo 2^64.
-fn bit_count(n: usize) -> u64
-    ensures { result ≡ (n * 8) % 2 ^ 64 }
-{
-    (n as u64).wrapping_mul(8)
-}
-
-// Writes the 1 bit that follows a message that ends at place `n`.
-fn append_one(last: &mut [u8; 128], n: usize)
-    requires { n < 128 }
-    ensures { last.new ≡ slice_set last.old n 128 }
-{
-    last[n] = 0x80;
-}
-
 // The last one or two blocks of a message of `n` bytes: its `rest`, which fills no block, and the padding.
+#[tactic(auto, using(crate::proofs::Tail::padded_rest, crate::proofs::Tail::bytes8))]
 fn last_blocks(rest: &[u8], n: usize) -> [u8; 128]
     requires { length rest.now ≡ n % 64 }
     ensures { take (length rest.now + length (padding n)) result ≡ rest.now ++ padding n }
 {
     let mut last = [0; 128];
     last[..rest.len()].copy_from_slice(rest);
-    append_one(&mut last, rest.len());
+    last[rest.len()] = 0x80;
     let end = padded_end(rest, n);
-    last[end - 8..end].copy_from_slice(&bit_count(n).to_le_bytes());
+    let bits = (n as u64).wrapping_mul(8);
+    last[end - 8..end].copy_from_slice(&bits.to_le_bytes());
     last
 }
 
@@ -314,6 +305,7 @@ impl Words {
     }
 
     // The four words, the low-order byte of each first.
+    #[tactic(auto, using(crate::proofs::Tail::bytes4))]
     fn output(self) -> [u8; 16]
         ensures { result ≡ output self }
     {
@@ -338,6 +330,7 @@ impl Table {
     }
 
     // The words after the blocks that a message fills.
+    #[tactic(auto, using(crate::proofs::Blocks::blocks_are))]
     fn whole_blocks(&self, message: &[u8]) -> Words
         ensures { result ≡ blocks message.now (length message.now / 64) }
     {
@@ -346,6 +339,7 @@ impl Table {
     }
 
     // The words after all blocks of the padded message, from the `words` after those that the message fills.
+    #[tactic(auto, using(crate::proofs::Blocks::all_blocks))]
     fn padded_blocks(&self, message: &[u8], words: Words) -> Words
         requires { words ≡ blocks message.now (length message.now / 64) }
         ensures { result ≡ blocks (padded message.now) (length (padded message.now) / 64) }
@@ -359,6 +353,7 @@ impl Table {
 }
 
 /// The digest of a message of any length.
+#[tactic(auto, unfolding(crate::specs::Rfc1321::digest))]
 pub fn md5(message: &[u8]) -> [u8; 16]
     ensures { result ≡ digest message.now }
 {

@@ -1,5 +1,5 @@
-use Rattle.std.proofs.Common.{ℕ, ◌≡◌, ◌+◌, ◌*◌, ◌-◌, ◌/◌, ◌<◌, List, get_or, ap, ◌∙◌, arith}
-use Rattle.placement.specs.Rfc1321.{Buffer, Listed, sine, sines, word, operation}
+use Rattle.std.proofs.Common.{ℕ, ◌≡◌, ◌+◌, ◌*◌, ◌-◌, List, get_or, ap, ◌∙◌, arith}
+use Rattle.placement.specs.Rfc1321.{sine, sines, word, operation}
 use Rattle.placement.proofs.Operations.{listed, operation_is}
 use Rattle.placement.proofs.rfc1321.Operands.operation.Goals as goal
 
