@@ -35,7 +35,7 @@ const SINES: [u32; 64] = [
     0x6fa87e4f, 0xfe2ce6e0, 0xa3014314, 0x4e0811a1, 0xf7537e82, 0xbd3af235, 0x2ad7d2bb, 0xeb86d391,
 ];
 
-// A round: which words its operations add and by how much they rotate, and its auxiliary function.
+// A round of sixteen operations: which words they add, by how much they rotate, and the auxiliary function that they use.
 trait Round {
     // The number of the round, counted from 0.
     ghost NUMBER: { ℕ };
@@ -223,8 +223,8 @@ impl Operands<'_> {
         }
     }
 
-    // Four operations of a round, from operation `n` on, which make each of the words anew. Written out, as the round is: a loop is not
-    // unrolled so far that the numbers k and s are constants (180 to 495 MB/s in place of 650).
+    // Four operations of a round, from operation `n` on, which make each of the words anew.
+    // Kept: written out, as the round is, since a loop, in each of six forms, is slower: 178 to 520 MB/s at 1 MiB, best of 100 runs, not 655.
     #[inline(always)]
     #[tactic(auto, using(crate::proofs::Operations::four))]
     fn four_operations<R: Round>(&self, n: usize, words: Words) -> Words
