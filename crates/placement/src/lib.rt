@@ -16,12 +16,12 @@ pub trait Placement {
     /// The function.
     ghost placed: { Self → List ℕ → ℕ };
 
-    /// Its values have 32 bits.
-    ghost small: { (s : Self) (name : List ℕ) → placed s name < 2 ^ 32 };
-
     /// Its value at a name.
     fn place(&self, name: &[u8]) -> u32
         ensures { result ≡ placed self.now name.now };
+
+    /// Its values have 32 bits.
+    ghost small: { (s : Self) (name : List ℕ) → placed s name < 2 ^ 32 };
 }
 
 /// The first four bytes of the name's MD5 digest, the most significant first.
