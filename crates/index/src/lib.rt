@@ -6,7 +6,6 @@ mod map;
 mod maps;
 mod partition_set;
 mod range;
-mod servers;
 mod settings;
 mod words;
 
