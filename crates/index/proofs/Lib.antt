@@ -8,3 +8,4 @@ pub mod Folding
 pub mod WordSets
 pub mod Lowering
 pub mod MapFacts
+pub mod MapWalks

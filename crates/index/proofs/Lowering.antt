@@ -1,9 +1,11 @@
 -- A level of filling up, in words.
-use Rattle.std.proofs.Common.{◌≡◌, ℕ, zero, suc, ◌+◌, ◌-◌, ◌*◌, ◌/◌, ◌%◌, ◌^◌, ◌<◌, ◌≤◌, min, Bool, true, false, ◌&&◌, ◌||◌, eqb, ltb, leb, ◌⊎◌, List, length, get_or, set, sym, refl, ap, ◌∙◌, ap₂, inl, inr, arith, get_or-set_other, get_or-set_same}
+use Rattle.std.proofs.Common.{◌≡◌, ℕ, zero, suc, ◌+◌, ◌-◌, ◌*◌, ◌/◌, ◌%◌, ◌^◌, ◌<◌, ◌≤◌, ◌≢◌, min, Bool, true, false, ◌&&◌, ◌||◌, eqb, ltb, leb, ◌⊎◌, List, length, get_or, set, sym, refl, ap, ◌∙◌, ap₂, inl, inr, arith, get_or-set_other, get_or-set_same}
 use mathlib.Core.Bool.{or-false, or_assoc}
+use mathlib.Core.Path.{fun_ext}
 use lib.Bits.{bit_and, bit_or}
-use Rattle.std.proofs.lemmas.Bool.{cases_lt}
-use Rattle.index.specs.Numbers.{bit, bits}
+use Rattle.std.proofs.lemmas.Bool.{cases_lt, cases_eq}
+use Rattle.std.proofs.lemmas.List.{length-set}
+use Rattle.index.specs.Numbers.{Numbers, bit, bits}
 use Rattle.index.specs.Levels.{lowered, marks, alike}
 use Rattle.index.proofs.Bits.{bit_lt, bit_and_lem, bit_shr, bit_shl, bit_shl_below, bit_mod, at}
 use Rattle.index.proofs.Folding.{lowered_same, lowered_joins}
@@ -45,6 +47,13 @@ marked b mask q m h = alike_same (on mask q) (leb b q && ltb q (2 * b)) (at 64 (
     alike_same true y e = sym e
     alike_same false true e = e
     alike_same false false e = refl
+
+-- a level of b bits
+abbrev level : ℕ → ℕ
+level b = (((1 * 2 ^ b) % 2 ^ 64 - 1) * 2 ^ b) % 2 ^ 64
+
+pub level_marks : (b : ℕ) → b ≤ 16 → marks b (level b) ≡ true
+level_marks b h = at 17 (λ k. marks k (level k)) refl b (omega arith)
 
 pub lower_bits : (ws : List ℕ) (b mask : ℕ) → 0 < length ws → b ≤ 16 → marks b mask ≡ true → (q : ℕ)
     → bits (set ws 0 (bit_or (get_or ws 0 0) (bit_and (bit_or (get_or ws 0 0 / 2 ^ b) (get_or ws 0 0 / 2 ^ (2 * b))) mask))) q ≡ lowered b (bits ws) q
@@ -112,7 +121,7 @@ lower_half ws l q = go (cases_lt q 64) (cases_lt q 32)
 
 -- ---- levels of whole words
 
-pub lower_words : (xs ys : List ℕ) (b : ℕ)
+lower_words : (xs ys : List ℕ) (b : ℕ)
     → ((i : ℕ) → b ≤ i → i < 2 * b → get_or ys i 0 ≡ bit_or (get_or xs i 0) (bit_or (get_or xs (i + b) 0) (get_or xs (i + 2 * b) 0)))
     → ((i : ℕ) → (i < b) ⊎ (2 * b ≤ i) → get_or ys i 0 ≡ get_or xs i 0) → (q : ℕ) → bits ys q ≡ lowered (64 * b) (bits xs) q
 lower_words xs ys b new old q = go (cases_lt (q / 64) b) (cases_lt (q / 64) (2 * b))
@@ -135,3 +144,46 @@ lower_words xs ys b new old q = go (cases_lt (q / 64) b) (cases_lt (q / 64) (2 *
         ∙ sym (or_assoc (on (get_or xs i 0) k) (on (get_or xs (i + b) 0) k) (on (get_or xs (i + 2 * b) 0) k))
         ∙ sym (lowered_joins (64 * b) (bits xs) q (omega arith) (omega arith)
         ∙ ap₂ ◌||◌ (ap (λ (x : Bool). bits xs q || x) (at_word b (q + 64 * b) refl)) (at_word (2 * b) (q + 2 * (64 * b)) (omega arith)))
+
+-- the word at i joins those that are b and 2 * b above it
+abbrev pub joined : List ℕ → ℕ → ℕ → List ℕ
+joined ws i b = set ws i (bit_or (get_or ws i 0) (bit_or (get_or ws (i + b) 0) (get_or ws (i + 2 * b) 0)))
+
+other : (ws : List ℕ) (i b k : ℕ) → k ≢ i → get_or (joined ws i b) k 0 ≡ get_or ws k 0
+other ws i b k h = get_or-set_other ws i k _ 0 h
+
+same : (ws : List ℕ) (i b : ℕ) → i < length ws → get_or (joined ws i b) i 0 ≡ bit_or (get_or ws i 0) (bit_or (get_or ws (i + b) 0) (get_or ws (i + 2 * b) 0))
+same ws i b h = get_or-set_same ws i _ 0 h
+
+two_words : (ws : List ℕ) → length ws ≡ 8 → (q : ℕ) → bits (joined (joined ws 2 2) 3 2) q ≡ lowered 128 (bits ws) q
+two_words ws l = lower_words ws (joined (joined ws 2 2) 3 2) 2 new old
+  where
+    long : length (joined ws 2 2) ≡ 8
+    long = length-set ws 2 _ ∙ l
+
+    new : (i : ℕ) → 2 ≤ i → i < 4 → get_or (joined (joined ws 2 2) 3 2) i 0 ≡ bit_or (get_or ws i 0) (bit_or (get_or ws (i + 2) 0) (get_or ws (i + 4) 0))
+    new i a b = elim (cases_eq i 2) [
+      | inl e ↦ rw e (other (joined ws 2 2) 3 2 2 (λ z. omega arith) ∙ same ws 2 2 (omega arith))
+      | inr ne ↦
+          let e : i ≡ 3 = omega arith in
+          rw e (same (joined ws 2 2) 3 2 (omega (arith, long)) ∙ ap₂ bit_or (other ws 2 2 3 (λ z. omega arith)) (ap₂ bit_or (other ws 2 2 5 (λ z. omega arith)) (other ws 2 2 7 (λ z. omega arith))))
+    ]
+
+    old : (i : ℕ) → (i < 2) ⊎ (4 ≤ i) → get_or (joined (joined ws 2 2) 3 2) i 0 ≡ get_or ws i 0
+    old i (inl h) = other (joined ws 2 2) 3 2 i (λ z. omega arith) ∙ other ws 2 2 i (λ z. omega arith)
+    old i (inr h) = other (joined ws 2 2) 3 2 i (λ z. omega arith) ∙ other ws 2 2 i (λ z. omega arith)
+
+one_word : (ws : List ℕ) → length ws ≡ 8 → (q : ℕ) → bits (joined ws 1 1) q ≡ lowered 64 (bits ws) q
+one_word ws l = lower_words ws (joined ws 1 1) 1 new old
+  where
+    new : (i : ℕ) → 1 ≤ i → i < 2 → get_or (joined ws 1 1) i 0 ≡ bit_or (get_or ws i 0) (bit_or (get_or ws (i + 1) 0) (get_or ws (i + 2) 0))
+    new i a b = let e : i ≡ 1 = omega arith in rw e (same ws 1 1 (omega arith))
+
+    old : (i : ℕ) → (i < 1) ⊎ (2 ≤ i) → get_or (joined ws 1 1) i 0 ≡ get_or ws i 0
+    old i (inl h) = other ws 1 1 i (λ z. omega arith)
+    old i (inr h) = other ws 1 1 i (λ z. omega arith)
+
+pub three_words : (ws : List ℕ) → length ws ≡ 8 → (q : ℕ) → bits (joined (joined (joined ws 2 2) 3 2) 1 1) q ≡ lowered 64 (lowered 128 (bits ws)) q
+three_words ws l q =
+    one_word (joined (joined ws 2 2) 3 2) (length-set (joined ws 2 2) 3 _ ∙ length-set ws 2 _ ∙ l) q
+    ∙ ap (λ (m : Numbers). lowered 64 m q) (fun_ext (two_words ws l))

@@ -225,19 +225,7 @@ alone m M x l = record {
   only = λ q a b. only m M x l q (part_for m x) (T_true a) (T_true b) (part_in m M x l) (part_covers m M x l);
 }
 
--- ---- for code that walks
-
--- a loop that is at `path x d` after d turns, and ends where the map lets it or after nine
-pub walk_stops : (m : Numbers) → IsMap m → (x : ℕ) → x < 2 ^ 32 → (d : ℕ) → d ≤ 9 → ((e : ℕ) → e < d → m (path x e + 2 ^ e) ≡ true) → (d < 9 → m (path x d + 2 ^ d) ≡ false)
-    → part_for m x ≡ path x d
-walk_stops m M x l d few on stop = part_is_end m M x l d record { few = few; goes_on = on; shut = shut (cases_lt d 9) }
-  where
-    shut : (d < 9) ⊎ (9 ≤ d) → m (path x d + 2 ^ d) ≡ false
-    shut (inl h) = stop h
-    shut (inr h) = none_above m M _ (above (path x d) (2 ^ d) (pow_mono h))
-      where
-        above : (a b : ℕ) → 512 ≤ b → 512 ≤ a + b
-        above a b h = omega arith
+-- ---- for code that looks for a depth
 
 -- the first d below 9 that passes, or 9
 pub depth_found : (m : Numbers) (p d : ℕ) → p < 512 → m (p + 512) ≡ false → d ≤ 9 → ((k : ℕ) → k < d → (ltb p (2 ^ k) && not (m (p + 2 ^ k))) ≡ false)

@@ -6,11 +6,11 @@ use Rattle.index.specs.declared.range.PlacementRange.{PlacementRange}
 use Rattle.index.specs.Numbers.{Numbers, bits}
 use Rattle.index.specs.Ranges.{depth, start, width}
 
-abbrev pub has : Map → Numbers
-has m = bits m.words
-
 abbrev pub members : PartitionSet → Numbers
 members s = bits s.words
+
+abbrev pub has : Map → Numbers
+has m = members m.set
 
 -- the depth of p in m; nothing where m has no p
 abbrev pub depth_of : Numbers → ℕ → Option ℕ

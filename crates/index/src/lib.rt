@@ -3,11 +3,9 @@
 #![tactic(auto)]
 
 mod map;
-mod maps;
 mod partition_set;
 mod range;
 mod settings;
-mod words;
 
 pub use map::Map;
 pub use partition_set::PartitionSet;

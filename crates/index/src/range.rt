@@ -2,7 +2,7 @@ ghost use Rattle.std.specs.Prelude.{◌≡◌, ◌+◌, ◌-◌, ◌*◌, ◌/�
 ghost use Rattle.index.specs.Ranges.{start};
 
 /// The placements that a partition has, from the first to the last.
-#[derive(Clone, Copy, PartialEq, Eq)]
+#[derive(Clone, Copy, PartialEq, Eq, Debug)]
 pub struct PlacementRange {
     pub first: u32,
     pub last: u32,
@@ -15,7 +15,7 @@ impl PlacementRange {
         ensures first { result.first ≡ start p }
         ensures last { result.last ≡ start p + (2 ^ (32 - depth) - 1) }
     {
-        let first = reverse_bits(p as u32);
+        let first = reverse_bits(u32::from(p));
         let last = first + (u32::MAX >> depth);
         PlacementRange { first, last }
     }
@@ -30,6 +30,7 @@ fn swap(x: u32, by: u32, mask: u32) -> u32
 }
 
 // The 32 bits in reverse order.
+// Kept: five exchanges by shifts and masks, the form that the project asks for, and no `u32::reverse_bits`.
 fn reverse_bits(x: u32) -> u32
     ensures { result ≡ start x }
 {

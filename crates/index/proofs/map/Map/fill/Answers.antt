@@ -1,4 +1,0 @@
-use Rattle.index.proofs.map.Map.fill.Goals as goal
-
-pub invariant_of-result : goal.invariant_of-result
-invariant_of-result c = record { lawful = ∣ c.fill.ensures.least.is_map ∣₁ }
