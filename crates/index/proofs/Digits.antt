@@ -1,7 +1,8 @@
 -- Binary digits of placements and partition numbers: what a range has, in digits.
-use Rattle.std.proofs.Common.{◌≡◌, ℕ, zero, suc, ◌+◌, ◌-◌, ◌*◌, ◌/◌, ◌%◌, ◌^◌, ◌<◌, ◌≤◌, ◌⊎◌, sym, refl, ◌∙◌, subst, inl, inr, mod-lt, zero-lt-suc, suc-add, pow-suc, zero-add, div-mul-le_self, arith, pow_pos, pow_mono, pow-add}
+use Rattle.std.proofs.Common.{◌≡◌, ℕ, zero, suc, ◌+◌, ◌-◌, ◌*◌, ◌/◌, ◌%◌, ◌^◌, ◌<◌, ◌≤◌, ◌⊎◌, sym, refl, ap, ◌∙◌, subst, inl, inr, suc-add, pow-suc, zero-add, div-mul-le_self, arith, pow_pos, pow_mono, pow-add}
+use lib.Arith.{digits_div, digits_mod}
 use native.Mathlib.Nat.{div-eq_of_lt-le, div-eq_of_lt, lt-div-mul-add, div-div-eq-div-mul}
-use Rattle.std.proofs.lemmas.Bool.{cases_lt}
+use Rattle.std.proofs.lemmas.Bool.{cases_lt, cases_eq}
 use Rattle.index.specs.Numbers.{bit}
 use Rattle.index.specs.Ranges.{reversed, start}
 use Rattle.index.proofs.Bits.{reversed_lt}
@@ -19,11 +20,7 @@ pub digit_bit : (x d : ℕ) → digit x d ≤ 1
 digit_bit x d = omega arith
 
 pub digit_cases : (x d : ℕ) → (digit x d ≡ 0) ⊎ (digit x d ≡ 1)
-digit_cases x d = go (digit x d) (digit_bit x d)
-  where
-    go : (n : ℕ) → n ≤ 1 → (n ≡ 0) ⊎ (n ≡ 1)
-    go zero h = inl refl
-    go (suc n) h = inr (omega arith)
+digit_cases x d = elim (cases_eq (digit x d) 0) [ inl e ↦ inl e | inr ne ↦ inr (omega (arith, digit_bit x d)) ]
 
 pub path_zero : (x d : ℕ) → digit x d ≡ 0 → path x (suc d) ≡ path x d
 path_zero x d e = rw e (omega arith)
@@ -74,23 +71,15 @@ reversed_more (suc d) p b h k =
     let ih : reversed (suc d) (p / 2 + b * 2 ^ d) ≡ 2 * reversed d (p / 2) + b = reversed_more d (p / 2) b (half_lt p d h) k in
     rw (step_half p b d, step_odd p b d, pow-suc) (omega arith)
 
-split_parity : (a b u v n : ℕ) → a < 2 → b < 2 → u < n → v < n → a * n + u ≡ b * n + v → (a ≡ b) × (u ≡ v)
-split_parity zero zero u v n h k l m e = omega arith
-split_parity zero (suc zero) u v n h k l m e = omega arith
-split_parity (suc zero) zero u v n h k l m e = omega arith
-split_parity (suc zero) (suc zero) u v n h k l m e = omega arith
-split_parity (suc (suc a)) zero u v n h k l m e = omega arith
-split_parity (suc (suc a)) (suc b) u v n h k l m e = omega arith
-split_parity zero (suc (suc b)) u v n h k l m e = omega arith
-split_parity (suc zero) (suc (suc b)) u v n h k l m e = omega arith
-
 pub reversed_apart : (d p q : ℕ) → p < 2 ^ d → q < 2 ^ d → reversed d p ≡ reversed d q → p ≡ q
 unfolding reversed
 reversed_apart zero p q h k e = omega arith
 reversed_apart (suc d) p q h k e =
-    let s = split_parity (p % 2) (q % 2) _ _ (2 ^ d) (mod-lt p (zero-lt-suc 1)) (mod-lt q (zero-lt-suc 1)) (reversed_lt d (p / 2)) (reversed_lt d (q / 2)) e in
-    let r : p / 2 ≡ q / 2 = reversed_apart d (p / 2) (q / 2) (half_lt p d h) (half_lt q d k) s.1 in
-    omega (arith, s.0)
+    let lp = reversed_lt d (p / 2) in
+    let lq = reversed_lt d (q / 2) in
+    let odd : p % 2 ≡ q % 2 = sym (digits_div (p % 2) lp) ∙ ap (λ (n : ℕ). n / 2 ^ d) e ∙ digits_div (q % 2) lq in
+    let rest : reversed d (p / 2) ≡ reversed d (q / 2) = sym (digits_mod (p % 2) lp) ∙ ap (λ (n : ℕ). n % 2 ^ d) e ∙ digits_mod (q % 2) lq in
+    omega (arith, odd, reversed_apart d (p / 2) (q / 2) (half_lt p d h) (half_lt q d k) rest)
 
 -- ---- the first d digits
 

@@ -1,5 +1,6 @@
 -- Filling up a set: `filled` is the least map that has it.
 use Rattle.std.proofs.Common.{◌≡◌, ℕ, zero, suc, ◌+◌, ◌-◌, ◌%◌, ◌^◌, ◌<◌, ◌≤◌, Bool, true, false, ◌&&◌, ◌||◌, T, eqb, leb, ◌⊎◌, sym, refl, ap, ◌∙◌, subst, ap₂, inl, inr, le_refl, mod-lt, mod-eq_of_lt, pow-suc, arith, pow_pos, pow_mono}
+use Rattle.std.proofs.lemmas.Float.{T_from_true}
 use mathlib.Core.Path.{fun_ext}
 use mathlib.Core.Bool.{or-false}
 use native.Mathlib.Nat.{add-mod_right}
@@ -7,7 +8,7 @@ use lib.Pow.{pow-lt, mod-mod-pow}
 use Rattle.std.proofs.lemmas.Bool.{cases_lt, cases_order, and_parts, and_from, leb-true, le-leb, both_ways, or_cases, or_left, or_right, eqb-true, eq-eqb}
 use Rattle.index.specs.Numbers.{Numbers, Within, some_below}
 use Rattle.index.specs.Maps.{IsMap, Fills, wants, filled}
-use Rattle.index.proofs.Truth.{T_true, true_T}
+use Rattle.index.proofs.Truth.{T_true}
 
 pub some_from : (t : ℕ → Bool) (n k : ℕ) → k < n → t k ≡ true → some_below t n ≡ true
 some_from t zero k l h = absurd (omega arith)
@@ -125,11 +126,11 @@ module _ (s : Numbers) (bounded : (q : ℕ) → T (s q) → q < 512) where
 
   because : (q : ℕ) → Why q → T (filled s q)
   unfolding filled wants
-  because q (inl z) = true_T (or_left (eqb q 0) (some_below (source s q) 512) (eq-eqb q 0 z))
+  because q (inl z) = T_from_true _ (or_left (eqb q 0) (some_below (source s q) 512) (eq-eqb q 0 z))
   because q (inr (r, e, in', l, h, is)) =
       let a : rung r q e ≡ true = and_from _ _ (le-leb (2 ^ e) r h) (eq-eqb q (r % 2 ^ e + 2 ^ e) is) in
       let b : source s q r ≡ true = and_from _ _ in' (some_from (rung r q) 9 e l a) in
-      true_T (or_right (eqb q 0) (some_below (source s q) 512) (some_from (source s q) 512 r (bounded r (true_T in')) b))
+      T_from_true _ (or_right (eqb q 0) (some_below (source s q) 512) (some_from (source s q) 512 r (bounded r (T_from_true _ in')) b))
 
   filled_map : IsMap (filled s)
   filled_map = record {
@@ -189,7 +190,7 @@ module _ (s : Numbers) (bounded : (q : ℕ) → T (s q) → q < 512) where
 
       least : (m : Numbers) → IsMap m → Within s m → (q : ℕ) → Why q → T (m q)
       least m M w q (inl z) = rw z M.root
-      least m M w q (inr (r, e, in', l, h, is)) = rw is (ladder m M 9 r e (bounded r (true_T in')) (w r (true_T in')) h)
+      least m M w q (inr (r, e, in', l, h, is)) = rw is (ladder m M 9 r e (bounded r (T_from_true _ in')) (w r (T_from_true _ in')) h)
 
 -- the numbers of `filled s`, however they are held
 pub fills_as : (s f : Numbers) → ((q : ℕ) → T (s q) → q < 512) → ((q : ℕ) → f q ≡ filled s q) → Fills s f

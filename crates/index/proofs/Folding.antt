@@ -1,14 +1,15 @@
 -- Filling up level by level, from the highest numbers down, gives what `filled` gives.
 use Rattle.std.proofs.Common.{◌≡◌, ℕ, zero, suc, ◌+◌, ◌-◌, ◌*◌, ◌%◌, ◌^◌, ◌<◌, ◌≤◌, Bool, true, false, ◌&&◌, ◌||◌, T, eqb, ltb, leb, ◌⊎◌, sym, refl, ap, ◌∙◌, subst, ap₂, inl, inr, le_refl, mod-lt, pow-suc, one-add, arith, pow_pos, pow_mono}
+use Rattle.std.proofs.lemmas.Float.{T_from_true}
 use mathlib.Core.Bool.{and-true, and-false, or-true, or-false, or_assoc}
 use lib.Pow.{mod-pow-add}
 use Rattle.std.proofs.lemmas.Bool.{cases_lt, and_from, and_left, and_right, lt-ltb, le-ltb, le-leb, lt-leb, ne_eqb}
+use Rattle.std.proofs.lemmas.Nat.Bits.{bit_at-lt}
 use Rattle.index.specs.Numbers.{Numbers, bit}
 use Rattle.index.specs.Maps.{IsMap, Fills, filled}
 use Rattle.index.specs.Levels.{lowered}
-use Rattle.index.proofs.Bits.{bit_lt}
 use Rattle.index.proofs.Filling.{filled_fills, one_top, topped, ladder, top_mod, Why, why}
-use Rattle.index.proofs.Truth.{T_true, true_T, T_same, T_or, T_left, T_right}
+use Rattle.index.proofs.Truth.{T_true, T_same, T_or, T_left, T_right}
 use Rattle.index.proofs.Walks.{none_above}
 
 -- the levels below n, the highest first
@@ -116,7 +117,7 @@ folds_folded s f bounded e = record {
 
     none : (q : ℕ) → 512 ≤ q → (b : Bool) → s q ≡ b → s q ≡ false
     none q h false z = z
-    none q h true z = absurd (omega (arith, bounded q (true_T z)))
+    none q h true z = absurd (omega (arith, bounded q (T_from_true _ z)))
 
 -- ---- and it is the filled-up one
 
@@ -147,7 +148,7 @@ module _ (s : Numbers) (bounded : (q : ℕ) → T (s q) → q < 512) where
   }
     where
       from_set : (q : ℕ) → (r : ℕ) × (s r ≡ true) × (256 ≤ r) × (q ≡ r % 256 + 256) → T (s q)
-      from_set q (r, in', h, is) = let z : r ≡ q = omega (arith, bounded r (true_T in')) in subst (λ (n : ℕ). T (s n)) z (true_T in')
+      from_set q (r, in', h, is) = let z : r ≡ q = omega (arith, bounded r (T_from_true _ in')) in subst (λ (n : ℕ). T (s n)) z (T_from_true _ in')
 
       sibling : (e q : ℕ) → 2 ^ e ≤ q → q < 2 ^ suc e → T (filled s (q + 2 ^ e)) → T (filled s q)
       sibling e q a b t =
@@ -164,7 +165,7 @@ module _ (s : Numbers) (bounded : (q : ℕ) → T (s q) → q < 512) where
       down e q (r, in', h, is) = place (cases_lt r (2 ^ suc e))
         where
           has_r : T (s r)
-          has_r = true_T in'
+          has_r = T_from_true _ in'
 
           next : 2 ^ suc e ≤ r → T (filled s (r % 2 ^ suc e + 2 ^ suc e))
           next k = ladder (filled s) M 9 r (suc e) (bounded r has_r) (F.has r has_r) k
@@ -181,7 +182,7 @@ module _ (s : Numbers) (bounded : (q : ℕ) → T (s q) → q < 512) where
                   let low : r - 2 ^ e < 2 ^ e = omega (arith, pow-suc 2 e) in
                   let z : r % 2 ^ e ≡ r - 2 ^ e = ap (λ (n : ℕ). n % 2 ^ e) y ∙ top_mod (r - 2 ^ e) e low in
                   omega arith
-          place (inr k) = which (bit r e) (bit_lt r e) parts
+          place (inr k) = which (bit r e) (bit_at-lt r e) parts
             where
               which : (b : ℕ) → b < 2 → r % 2 ^ suc e ≡ b * 2 ^ e + r % 2 ^ e → T ((s q || filled s (q + 2 ^ e)) || filled s (q + 2 ^ suc e))
               which zero l z =

@@ -1,13 +1,15 @@
 -- A level of filling up, in words.
-use Rattle.std.proofs.Common.{◌≡◌, ℕ, zero, suc, ◌+◌, ◌-◌, ◌*◌, ◌/◌, ◌%◌, ◌^◌, ◌<◌, ◌≤◌, ◌≢◌, min, Bool, true, false, ◌&&◌, ◌||◌, eqb, ltb, leb, ◌⊎◌, List, length, get_or, set, sym, refl, ap, ◌∙◌, ap₂, inl, inr, arith, get_or-set_other, get_or-set_same}
+use Rattle.std.proofs.Common.{◌≡◌, ℕ, ◌+◌, ◌-◌, ◌*◌, ◌/◌, ◌%◌, ◌^◌, ◌<◌, ◌≤◌, ◌≢◌, min, Bool, true, ◌&&◌, ◌||◌, eqb, ltb, leb, ◌⊎◌, List, length, get_or, set, sym, refl, ap, ◌∙◌, ap₂, inl, inr, arith, get_or-set_other, get_or-set_same}
 use mathlib.Core.Bool.{or-false, or_assoc}
 use mathlib.Core.Path.{fun_ext}
 use lib.Bits.{bit_and, bit_or}
-use Rattle.std.proofs.lemmas.Bool.{cases_lt, cases_eq}
+use Rattle.std.proofs.lemmas.Bool.{cases_lt, cases_eq, agree_below, agree_below_at}
+use Rattle.std.proofs.lemmas.Bool.Decides.{nat_tests}
 use Rattle.std.proofs.lemmas.List.{length-set}
+use Rattle.std.proofs.lemmas.Nat.Bits.{bit_at-lt, bit_at_and}
 use Rattle.index.specs.Numbers.{Numbers, bit, bits}
-use Rattle.index.specs.Levels.{lowered, marks, alike}
-use Rattle.index.proofs.Bits.{bit_lt, bit_and_lem, bit_shr, bit_shl, bit_shl_below, bit_mod, at}
+use Rattle.index.specs.Levels.{lowered}
+use Rattle.index.proofs.Bits.{bit_shr, bit_shl, bit_shl_below, bit_mod}
 use Rattle.index.proofs.Folding.{lowered_same, lowered_joins}
 use Rattle.index.proofs.WordSets.{on, on_or}
 
@@ -25,51 +27,36 @@ on_others ws w q h = ap (λ (n : ℕ). on n (q % 64)) (get_or-set_other ws 0 (q 
 -- ---- levels of less than half a word
 
 on_and : (a b k : ℕ) → on (bit_and a b) k ≡ (on a k && on b k)
-on_and a b k = ap (λ (x : ℕ). eqb x 1) (bit_and_lem a b k) ∙ both (bit a k) (bit b k) (bit_lt a k) (bit_lt b k)
+on_and a b k = ap (λ (x : ℕ). eqb x 1) (bit_at_and a b k) ∙ both (bit a k) (bit b k) (bit_at-lt a k) (bit_at-lt b k)
   where
     both : (x y : ℕ) → x < 2 → y < 2 → eqb (min x y) 1 ≡ (eqb x 1 && eqb y 1)
-    both zero zero hx hy = refl
-    both zero (suc zero) hx hy = refl
-    both (suc zero) zero hx hy = refl
-    both (suc zero) (suc zero) hx hy = refl
-    both zero (suc (suc y)) hx hy = absurd (omega arith)
-    both (suc zero) (suc (suc y)) hx hy = absurd (omega arith)
-    both (suc (suc x)) y hx hy = absurd (omega arith)
+    both x y hx hy = grind (arith, nat_tests)
 
 on_shr : (n s k : ℕ) → on (n / 2 ^ s) k ≡ on n (k + s)
 on_shr n s k = ap (λ (x : ℕ). eqb x 1) (bit_shr n s k ∙ ap (bit n) (omega arith))
 
--- the mask marks the level
-marked : (b mask q : ℕ) → marks b mask ≡ true → q < 64 → on mask q ≡ (leb b q && ltb q (2 * b))
-marked b mask q m h = alike_same (on mask q) (leb b q && ltb q (2 * b)) (at 64 (λ k. alike (on mask k) (leb b k && ltb k (2 * b))) m q h)
-  where
-    alike_same : (x y : Bool) → alike x y ≡ true → x ≡ y
-    alike_same true y e = sym e
-    alike_same false true e = e
-    alike_same false false e = refl
+-- the mask of a level of b bits
+abbrev pub mask : ℕ → ℕ
+mask b = (((1 * 2 ^ b) % 2 ^ 64 - 1) * 2 ^ b) % 2 ^ 64
 
--- a level of b bits
-abbrev level : ℕ → ℕ
-level b = (((1 * 2 ^ b) % 2 ^ 64 - 1) * 2 ^ b) % 2 ^ 64
+marked : (b q : ℕ) → b ≤ 16 → q < 64 → on (mask b) q ≡ (leb b q && ltb q (2 * b))
+marked b q few h = agree_below_at (on (mask b)) (λ k. leb b k && ltb k (2 * b)) 64 q (agree_below_at (λ n. agree_below (on (mask n)) (λ k. leb n k && ltb k (2 * n)) 64) (λ n. true) 17 b refl (omega arith)) h
 
-pub level_marks : (b : ℕ) → b ≤ 16 → marks b (level b) ≡ true
-level_marks b h = at 17 (λ k. marks k (level k)) refl b (omega arith)
-
-pub lower_bits : (ws : List ℕ) (b mask : ℕ) → 0 < length ws → b ≤ 16 → marks b mask ≡ true → (q : ℕ)
-    → bits (set ws 0 (bit_or (get_or ws 0 0) (bit_and (bit_or (get_or ws 0 0 / 2 ^ b) (get_or ws 0 0 / 2 ^ (2 * b))) mask))) q ≡ lowered b (bits ws) q
-lower_bits ws b mask l few m q = go (cases_lt q 64) (cases_lt q b) (cases_lt q (2 * b))
+pub lower_bits : (ws : List ℕ) (b : ℕ) → 0 < length ws → b ≤ 16 → (q : ℕ)
+    → bits (set ws 0 (bit_or (get_or ws 0 0) (bit_and (bit_or (get_or ws 0 0 / 2 ^ b) (get_or ws 0 0 / 2 ^ (2 * b))) (mask b)))) q ≡ lowered b (bits ws) q
+lower_bits ws b l few q = go (cases_lt q 64) (cases_lt q b) (cases_lt q (2 * b))
   where
     w : ℕ
     w = get_or ws 0 0
 
     new : ℕ
-    new = bit_or w (bit_and (bit_or (w / 2 ^ b) (w / 2 ^ (2 * b))) mask)
+    new = bit_or w (bit_and (bit_or (w / 2 ^ b) (w / 2 ^ (2 * b))) (mask b))
 
     -- in the word alone
     here : q < 64 → bits (set ws 0 new) q ≡ lowered b (on w) q
     here h =
         on_new ws new q l h ∙ on_or w _ q
-        ∙ ap (λ (x : Bool). on w q || x) (on_and _ mask q ∙ ap₂ ◌&&◌ (on_or (w / 2 ^ b) (w / 2 ^ (2 * b)) q ∙ ap₂ ◌||◌ (on_shr w b q) (on_shr w (2 * b) q)) (marked b mask q m h))
+        ∙ ap (λ (x : Bool). on w q || x) (on_and _ (mask b) q ∙ ap₂ ◌&&◌ (on_or (w / 2 ^ b) (w / 2 ^ (2 * b)) q ∙ ap₂ ◌||◌ (on_shr w b q) (on_shr w (2 * b) q)) (marked b q few h))
 
     away : q < 64 → (q < b) ⊎ (2 * b ≤ q) → bits (set ws 0 new) q ≡ lowered b (bits ws) q
     away h o = here h ∙ lowered_same b (on w) q o ∙ sym (lowered_same b (bits ws) q o ∙ on_first ws q h)

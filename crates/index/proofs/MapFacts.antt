@@ -1,8 +1,7 @@
 -- Maps as the types hold them: the invariant in hand, and what keeps it.
-use Rattle.std.proofs.Common.{◌≡◌, ℕ, ◌+◌, ◌-◌, ◌*◌, ◌/◌, ◌^◌, ◌<◌, ◌≤◌, sym, ap, ◌∙◌, inl, inr, mul-le-mul_left, arith, pow_pos, pow-add}
+use Rattle.std.proofs.Common.{◌≡◌, ℕ, ◌+◌, ◌-◌, ◌*◌, ◌^◌, ◌<◌, ◌≤◌, sym, ap, ◌∙◌, inl, inr, mul-le-mul_left, arith, pow-add}
 use mathlib.Core.HLevel.{Π_prop}
 use mathlib.Core.Logic.{∥∥₁_elim}
-use native.Mathlib.Nat.{div-eq_of_lt-le}
 use native.Mathlib.Bridge.{le_prop}
 use lib.Dec.{T_prop}
 use Rattle.index.specs.Numbers.{Numbers, Within, union}
@@ -56,18 +55,6 @@ union_map m n M N = record {
 }
 
 -- ---- ranges
-
--- how long a range is, but for one
-pub rest_of_range : (d : ℕ) → d ≤ 32 → 4294967295 / 2 ^ d ≡ 2 ^ (32 - d) - 1
-rest_of_range d h =
-    let l = limits (2 ^ (32 - d)) (2 ^ d) (2 ^ (32 - d) - 1) (omega (arith, pow_pos (32 - d))) (pow_pos d) whole in
-    div-eq_of_lt-le (2 ^ d) l.0 l.1
-  where
-    whole : 2 ^ (32 - d) * 2 ^ d ≡ 4294967296
-    whole = let e : 32 - d + d ≡ 32 = omega arith in sym (pow-add 2 (32 - d) d) ∙ ap (λ (n : ℕ). 2 ^ n) e
-
-    limits : (a b k : ℕ) → a ≡ k + 1 → 0 < b → a * b ≡ 4294967296 → (k * b ≤ 4294967295) × (4294967295 < (k + 1) * b)
-    limits a b k e h f = let g : (k + 1) * b ≡ 4294967296 = rw (← e) f in (omega arith, omega arith)
 
 -- a range ends below 2 ^ 32
 pub range_fits : (p d : ℕ) → p < 2 ^ d → d ≤ 32 → start p + 2 ^ (32 - d) ≤ 4294967296

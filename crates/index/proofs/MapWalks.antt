@@ -48,10 +48,9 @@ walk_stops m x p d e at is on stop h l =
 -- or after nine turns
 pub walk_ends : (m : Map) (x p d : ℕ) → p ≡ path x d → ((k : ℕ) → k < d → has m (path x k + 2 ^ k) ≡ true) → 9 ≤ d → d ≤ 9 → x < 2 ^ 32 → p ≡ part_for (has m) x
 walk_ends m x p d at on h k l =
-    at ∙ sym (part_is_end (has m) (map_of m.lawful) x l d record { few = k; goes_on = on; shut = none_above (has m) (map_of m.lawful) _ (above (path x d) (2 ^ d) (pow_mono h)) })
-  where
-    above : (a b : ℕ) → 512 ≤ b → 512 ≤ a + b
-    above a b h = omega arith
+    let M = map_of m.lawful in
+    let most : 512 ≤ 2 ^ d = pow_mono h in
+    at ∙ sym (part_is_end (has m) M x l d record { few = k; goes_on = on; shut = none_above (has m) M (path x d + 2 ^ d) (omega arith) })
 
 pub is_alone : (m : Map) (x p : ℕ) → x < 2 ^ 32 → p ≡ part_for (has m) x → Alone (has m) x p
 is_alone m x p l e = subst (Alone (has m) x) (sym e) (alone (has m) (map_of m.lawful) x l)

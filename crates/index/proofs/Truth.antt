@@ -1,5 +1,5 @@
 -- Tests that are true.
-use Rattle.std.proofs.Common.{◌≡◌, Bool, true, false, ◌||◌, T, ◌⊎◌, sym, refl, subst, inl, inr}
+use Rattle.std.proofs.Common.{◌≡◌, Bool, true, false, ◌||◌, T, ◌⊎◌, refl, inl, inr}
 
 pub T_true : {b : Bool} → T b → b ≡ true
 T_true {b} = go b
@@ -7,9 +7,6 @@ T_true {b} = go b
     go : (b : Bool) → T b → b ≡ true
     go true t = refl
     go false t = absurd t
-
-pub true_T : {b : Bool} → b ≡ true → T b
-true_T e = subst T (sym e) tt
 
 pub T_same : (a b : Bool) → (T a → T b) → (T b → T a) → a ≡ b
 T_same true true h k = refl

@@ -1,10 +1,11 @@
 -- The partition of a map for a placement: it is one, and a walk along the placement's digits ends at it.
 use Rattle.std.proofs.Common.{◌≡◌, ℕ, zero, suc, ◌+◌, ◌^◌, ◌<◌, ◌≤◌, Bool, true, false, cond, not, ◌&&◌, ltb, ◌⊎◌, sym, refl, ap, ◌∙◌, subst, inl, inr, le_refl, arith, pow_mono}
+use Rattle.std.proofs.lemmas.Float.{T_from_true}
 use Rattle.std.proofs.lemmas.Bool.{cases_lt, cases_order, and_parts, and_from, and_left, and_right, leb-true, ltb-true, lt-ltb, le-ltb, le-leb, both_ways, not-true, not-false, not_from_true, not_from_false}
 use Rattle.index.specs.Numbers.{Numbers}
 use Rattle.index.specs.Maps.{IsMap}
 use Rattle.index.specs.Ranges.{first, depth, covers, part_for, Alone}
-use Rattle.index.proofs.Truth.{T_true, true_T}
+use Rattle.index.proofs.Truth.{T_true}
 use Rattle.index.proofs.Digits.{digit, path, digit_cases, path_zero, path_one, path_lt, path_stays, in_range, range_in}
 
 -- ---- the first that passes
@@ -65,7 +66,7 @@ module _ (m : Numbers) (M : IsMap m) where
     where
       go : (b : Bool) → m q ≡ b → m q ≡ false
       go false e = e
-      go true e = absurd (omega (arith, M.bounded q (true_T e)))
+      go true e = absurd (omega (arith, M.bounded q (T_from_true _ e)))
 
   pub deep : (q : ℕ) → m q ≡ true → Deep m q (depth m q)
   unfolding depth
@@ -83,7 +84,7 @@ module _ (m : Numbers) (M : IsMap m) where
       r = first_is t 10 0
 
       below : q < 2 ^ 9
-      below = M.bounded q (true_T h)
+      below = M.bounded q (T_from_true _ h)
 
       nine : t 9 ≡ true
       nine = and_from _ _ (lt-ltb _ _ below) (not_from_false _ (none_above (q + 2 ^ 9) (omega arith)))
@@ -113,10 +114,7 @@ module _ (m : Numbers) (M : IsMap m) (x : ℕ) (placed : x < 2 ^ 32) where
     where
       shut : (turns m x < 9) ⊎ (9 ≤ turns m x) → m (path x (turns m x) + 2 ^ turns m x) ≡ false
       shut (inl h) = not-true _ ((first_is (λ d. not (m (path x d + 2 ^ d))) 9 0).passes h)
-      shut (inr h) = none_above m M _ (above (path x (turns m x)) (2 ^ turns m x) (pow_mono h))
-        where
-          above : (a b : ℕ) → 512 ≤ b → 512 ≤ a + b
-          above a b h = omega arith
+      shut (inr h) = let most : 512 ≤ 2 ^ turns m x = pow_mono h in none_above m M (path x (turns m x) + 2 ^ turns m x) (omega arith)
 
   pub one_end : (d e : ℕ) → Ends m x d → Ends m x e → d ≡ e
   one_end d e a b = go (cases_order d e)
@@ -170,7 +168,7 @@ module _ (m : Numbers) (M : IsMap m) (x : ℕ) (placed : x < 2 ^ 32) where
           let s : e ≡ d = omega arith in
           rw s (rw (path_zero x d z) at (on d (le_refl _) (rw (path_zero x d z) (path_lt x d))))
       go ih (inr z) (inl k) =
-          let here = true_T (rw (path_one x d z) at h) in
+          let here = T_from_true _ (rw (path_one x d z) at h) in
           ih (T_true (M.parent (path x d) d (path_lt x d) here)) (λ f a b. T_true (M.earlier (path x d) d f b a here)) k
       go ih (inr z) (inr k) = let s : e ≡ d = omega arith in rw (s, ← path_one x d z) h
 
@@ -199,7 +197,7 @@ module _ (m : Numbers) (M : IsMap m) (x : ℕ) (placed : x < 2 ^ 32) where
   unfolding part_for
   part_is_end d E = first_same (first_is (λ p. m p && covers m p x) 512 0) record {
     from = omega arith;
-    within = omega (arith, M.bounded (path x d) (true_T (end_in d E)));
+    within = omega (arith, M.bounded (path x d) (T_from_true _ (end_in d E)));
     least = λ k a h. least k h (m k && covers m k x) refl;
     passes = λ h. and_from _ _ (end_in d E) (end_covers d E);
   }
@@ -220,8 +218,8 @@ module _ (m : Numbers) (M : IsMap m) (x : ℕ) (placed : x < 2 ^ 32) where
 -- a placement lies in the range of exactly one partition
 pub alone : (m : Numbers) → IsMap m → (x : ℕ) → x < 2 ^ 32 → Alone m x (part_for m x)
 alone m M x l = record {
-  inside = true_T (part_in m M x l);
-  here = true_T (part_covers m M x l);
+  inside = T_from_true _ (part_in m M x l);
+  here = T_from_true _ (part_covers m M x l);
   only = λ q a b. only m M x l q (part_for m x) (T_true a) (T_true b) (part_in m M x l) (part_covers m M x l);
 }
 

@@ -1,27 +1,18 @@
--- the digit is 0 or 1, and stays within a partition number's bits
-use Rattle.std.proofs.Common.{◌≡◌, ℕ, zero, suc, ◌-◌, ◌*◌, ◌/◌, ◌%◌, ◌^◌, ◌<◌, ◌≤◌, ap, ◌∙◌, mod-eq_of_lt, arith, pow_mono}
-use lib.Bits.{bit_and, and_mask}
+use Rattle.std.proofs.Common.{ℕ, ◌-◌, ◌*◌, ◌%◌, ◌^◌, ◌<◌, ◌≤◌, ap, ◌∙◌, mod-eq_of_lt, arith, pow_mono, pow_pos}
+use Rattle.std.proofs.lemmas.Nat.{mul-add-lt}
+use Rattle.std.proofs.lemmas.Nat.Bits.{bit_at-lt, shr_and_one}
 use Rattle.index.specs.Numbers.{bit}
-use Rattle.index.proofs.Bits.{bit_lt}
 use Rattle.index.proofs.map.digit_at.Goals as goal
 
-small : (b n : ℕ) → b < 2 → n ≤ 256 → b * n ≤ 256
-small zero n h l = omega arith
-small (suc b) n h l = let z : b ≡ 0 = omega arith in rw z (omega arith)
-
-low : (x d : ℕ) → d < 9 → bit x (31 - d) * 2 ^ d ≤ 256
-low x d h =
+-- the digit is 0 or 1, and stays within a partition number's bits
+fits : (x d : ℕ) → d < 9 → bit x (31 - d) * 2 ^ d < 2 ^ 32
+fits x d h =
     let few : d ≤ 8 = omega arith in
     let most : 2 ^ d ≤ 2 ^ 8 = pow_mono few in
-    small (bit x (31 - d)) (2 ^ d) (bit_lt x (31 - d)) most
-
-shifted : (x d : ℕ) → d < 9 → (bit_and (x / 2 ^ (31 - d)) 1 * 2 ^ d) % 2 ^ 32 ≡ bit x (31 - d) * 2 ^ d
-shifted x d h =
-    let fits : bit x (31 - d) * 2 ^ d < 2 ^ 32 = omega (arith, low x d h) in
-    ap (λ (b : ℕ). (b * 2 ^ d) % 2 ^ 32) (and_mask (x / 2 ^ (31 - d)) 1) ∙ mod-eq_of_lt fits
-
-pub overflow_cast-result : goal.overflow_cast-result
-overflow_cast-result c = omega (arith, shifted c.args.placement c.args.d c.requires, low c.args.placement c.args.d c.requires)
+    omega (arith, mul-add-lt (bit x (31 - d)) (2 ^ d) 0 2 (bit_at-lt x (31 - d)) (pow_pos d))
 
 pub returns : goal.returns
-returns c = shifted c.args.placement c.args.d c.requires
+returns c =
+    let x = c.args.placement in
+    let d = c.args.d in
+    ap (λ (b : ℕ). (b * 2 ^ d) % 2 ^ 32) (shr_and_one x (31 - d)) ∙ mod-eq_of_lt (fits x d c.requires)

@@ -1,4 +1,4 @@
-use Rattle.std.proofs.Common.{◌≡◌, ℕ, ◌*◌, ◌^◌, ◌<◌, get_or, refl, arith, rules}
+use Rattle.std.proofs.Common.{◌*◌, ◌^◌, ◌<◌, get_or, refl, arith, rules}
 use lib.Count.{ones-le}
 use Rattle.index.specs.Numbers.{size}
 use Rattle.index.specs.Values.{members}
