@@ -53,6 +53,7 @@ impl PartitionSet {
         ensures { result ≡ size (members self.now) 512 }
     {
         let mut n = 0;
+        // Kept: a `sum` of the words' ones leaves open that it fits, since the proof then does not know that each word has 64 bits.
         for word in &self.words {
             n += word.count_ones() as u16;
         }

@@ -14,10 +14,10 @@ pub struct Settings {
     ghost within_limits: { IsTrue (accepted servers per_server threshold) },
 }
 
-/// Why settings are refused.
+/// Why settings are refused, with the number of the refusal in answers.
 #[derive(Clone, Copy, PartialEq, Eq, Debug)]
 pub enum SettingsRefusal {
-    OutsideLimits,
+    OutsideLimits = 30,
 }
 
 impl SettingsRefusal {
@@ -28,9 +28,7 @@ impl SettingsRefusal {
     pub fn number(self) -> u8
         ensures { result ≡ refusal_number self }
     {
-        match self {
-            SettingsRefusal::OutsideLimits => 30,
-        }
+        self as u8
     }
 }
 
