@@ -1,5 +1,5 @@
 -- Bad keys, and the entries of one partition.
-use Rattle.std.proofs.Common.{◌≡◌, ℕ, zero, suc, ◌<◌, Bool, true, false, cond, ◌&&◌, ◌||◌, eqb, leb, List, [], ◌∷◌, Some, Option, sym, refl, ap, ◌∙◌, subst, arith}
+use Rattle.std.proofs.Common.{◌≡◌, ℕ, zero, suc, ◌<◌, Bool, true, false, cond, ◌&&◌, ◌||◌, eqb, leb, List, [], ◌∷◌, Some, Option, Err, sym, refl, ap, ◌∙◌, subst, arith}
 use Rattle.std.specs.List.{slice_get}
 use Rattle.std.proofs.lemmas.Bool.{and_parts, and_from, and_right, both_ways, cond-false, leb-true, ne_eqb, eqb-true, or_left, or_right}
 use Rattle.names.specs.Names.{is_short}
@@ -7,7 +7,7 @@ use Rattle.names.specs.declared.byte_class.ByteClass.{ByteClass}
 use Rattle.store.specs.Calls.{move_answer}
 use Rattle.store.specs.Entries.{Entry, has_key, holds, inside, is_key, sound}
 use Rattle.store.specs.Laws.{Unanswered}
-use Rattle.store.specs.declared.answers.MoveAnswer.TheVariants.{Absent}
+use Rattle.store.specs.declared.answers.MoveError.TheVariants.{Absent}
 use Rattle.store.proofs.AnswerFacts.{move_absent}
 use Rattle.store.proofs.KeyFacts.{unheld, key_from}
 use Rattle.store.proofs.SoundFacts.{sound_parts, holds_key}
@@ -30,13 +30,13 @@ module _ (cls : ℕ → ByteClass) where
       by false h = h
 
   -- a move to a bad key: its partition is above 511, or its name is no short form
-  not_to : (es : List Entry) (p q : ℕ) (n : List ℕ) → sound cls es ≡ true → is_key cls p n ≡ false → move_answer es q p n ≡ Absent
+  not_to : (es : List Entry) (p q : ℕ) (n : List ℕ) → sound cls es ≡ true → is_key cls p n ≡ false → move_answer es q p n ≡ Err Absent
   not_to es p q n s b = by (leb p 511) refl (is_short cls n) refl
     where
-      by : (t : Bool) → leb p 511 ≡ t → (u : Bool) → is_short cls n ≡ u → move_answer es q p n ≡ Absent
+      by : (t : Bool) → leb p 511 ≡ t → (u : Bool) → is_short cls n ≡ u → move_answer es q p n ≡ Err Absent
       by true h true k = absurd (both_ways (is_key cls p n) b (and_from _ _ h k))
       by true h false k = move_absent es q p n (not_bad es q n s (and_right (leb q 511) (is_short cls n) k))
-      by false h u k = cond-false (holds es q n && leb p 511) _ Absent (and_right (holds es q n) (leb p 511) h)
+      by false h u k = cond-false (holds es q n && leb p 511) _ (Err Absent) (and_right (holds es q n) (leb p 511) h)
 
   pub unanswered : (es : List Entry) (p : ℕ) (n : List ℕ) → sound cls es ≡ true → is_key cls p n ≡ false → Unanswered es p n
   unanswered es p n s b =

@@ -1,8 +1,6 @@
-/// What a put is answered.
+/// Why a put adds no entry.
 #[derive(Clone, Copy, PartialEq, Eq, Debug)]
-pub enum PutAnswer {
-    /// The entry is in the store now.
-    Added,
+pub enum PutError {
     /// The partition has the name already.
     Present,
     /// The weights of all entries and of this one exceed the capacity.
@@ -11,11 +9,9 @@ pub enum PutAnswer {
     BadKey,
 }
 
-/// What a move is answered.
+/// Why a move passes no entry on.
 #[derive(Clone, Copy, PartialEq, Eq, Debug)]
-pub enum MoveAnswer {
-    /// The entry is in the other partition now.
-    Moved,
+pub enum MoveError {
     /// There is no such entry, or no such partition to move it to.
     Absent,
     /// The other partition has the name already.

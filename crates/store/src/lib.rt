@@ -11,7 +11,7 @@ mod answers;
 mod keys;
 mod laws;
 
-pub use answers::{ListedEntry, MoveAnswer, PutAnswer};
+pub use answers::{ListedEntry, MoveError, PutError};
 pub use keys::{LAST_PARTITION, is_key};
 pub use laws::{bad_keys_are_unanswered, entries_are_listed_once};
 
@@ -38,7 +38,7 @@ pub trait Store {
         ensures { result ≡ found (entries self.now) partition name.now };
 
     /// Adds an entry, unless its key is a bad one, its partition has the name already, or its weight does not fit.
-    fn put(&mut self, partition: u16, name: &[u8], number: u64) -> PutAnswer
+    fn put(&mut self, partition: u16, name: &[u8], number: u64) -> Result<(), PutError>
         ensures gives { result ≡ put_answer class (room self.old) (entries self.old) partition name.now }
         ensures leaves { PutLeaves result (entries self.old) (entry_of partition name.now number) (entries self.new) }
         ensures keeps { room self.new ≡ room self.old };
@@ -50,7 +50,7 @@ pub trait Store {
         ensures keeps { room self.new ≡ room self.old };
 
     /// Passes the entry with this key from one partition to another. It is never too heavy there.
-    fn relocate(&mut self, from: u16, to: u16, name: &[u8]) -> MoveAnswer
+    fn relocate(&mut self, from: u16, to: u16, name: &[u8]) -> Result<(), MoveError>
         ensures gives { result ≡ move_answer (entries self.old) from to name.now }
         ensures leaves { MoveLeaves result (entries self.old) from to name.now (entries self.new) }
         ensures keeps { room self.new ≡ room self.old };
