@@ -19,7 +19,7 @@ use crate::making::no_counts;
 use crate::slot::Item;
 pub use making::SlotsRefusal;
 pub use slot::Slot;
-use store::{LAST_PARTITION, ListedEntry, MoveAnswer, PutAnswer, Store, is_key};
+use store::{LAST_PARTITION, ListedEntry, MoveError, PutError, Store, is_key};
 pub use table::SlotTable;
 
 impl Store for SlotTable<'_> {
@@ -44,20 +44,20 @@ impl Store for SlotTable<'_> {
         }
     }
 
-    fn put(&mut self, partition: u16, name: &[u8], number: u64) -> PutAnswer
+    fn put(&mut self, partition: u16, name: &[u8], number: u64) -> Result<(), PutError>
         ensures gives { result ≡ put_answer class (room_of self.old) (entries_by_rank self.old) partition name.now }
         ensures leaves { PutLeaves result (entries_by_rank self.old) (entry_of partition name.now number) (entries_by_rank self.new) }
         ensures keeps { room_of self.new ≡ room_of self.old }
         ensures spares { beyond self.new ≡ beyond self.old }
     {
         if !is_key(partition, name) {
-            return PutAnswer::BadKey;
+            return Err(PutError::BadKey);
         }
         if self.place(partition, name) < self.used {
-            return PutAnswer::Present;
+            return Err(PutError::Present);
         }
         if self.used >= self.lent.slots.len() {
-            return PutAnswer::Full;
+            return Err(PutError::Full);
         }
         let last = self.used;
         let p = partition as usize;
@@ -65,7 +65,7 @@ impl Store for SlotTable<'_> {
         self.lent.occupy(last, item);
         self.used = last + 1;
         self.counts[p] += 1;
-        PutAnswer::Added
+        Ok(())
     }
 
     fn take(&mut self, partition: u16, name: &[u8]) -> Option<u64>
@@ -92,7 +92,7 @@ impl Store for SlotTable<'_> {
         Some(gone.number)
     }
 
-    fn relocate(&mut self, from: u16, to: u16, name: &[u8]) -> MoveAnswer
+    fn relocate(&mut self, from: u16, to: u16, name: &[u8]) -> Result<(), MoveError>
         ensures gives { result ≡ move_answer (entries_by_rank self.old) from to name.now }
         ensures leaves { MoveLeaves result (entries_by_rank self.old) from to name.now (entries_by_rank self.new) }
         ensures keeps { room_of self.new ≡ room_of self.old }
@@ -100,10 +100,10 @@ impl Store for SlotTable<'_> {
     {
         let i = self.place(from, name);
         if i >= self.used || to > LAST_PARTITION {
-            return MoveAnswer::Absent;
+            return Err(MoveError::Absent);
         }
         if self.place(to, name) < self.used {
-            return MoveAnswer::Present;
+            return Err(MoveError::Present);
         }
         let p = from as usize;
         let q = to as usize;
@@ -118,7 +118,7 @@ impl Store for SlotTable<'_> {
         self.lent.rewrite(i, moved);
         self.counts[p] = count;
         self.counts[q] += 1;
-        MoveAnswer::Moved
+        Ok(())
     }
 
     fn count(&self, partition: u16) -> usize {
