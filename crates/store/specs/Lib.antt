@@ -1,3 +1,4 @@
 pub mod Entries
 pub mod Calls
 pub mod Laws
+pub mod Answers
