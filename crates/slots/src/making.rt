@@ -1,11 +1,12 @@
 ghost use Rattle.std.specs.Prelude.{◌≡◌, [], length, drop, Some};
 ghost use Rattle.slots.specs.Held.{beyond, entries_by_rank, room_of, room_for};
-ghost use Rattle.slots.specs.Making.{refusal_number, refusal_words, slots_answer, slots_fit, slots_refusal, slots_taken};
+ghost use Rattle.slots.specs.Making.{refusal_number, refusal_words, slots_answer, slots_refusal, slots_taken};
 ghost use Rattle.slots.specs.Ranks.{Ranked};
 ghost use Rattle.slots.specs.Table.{Counts};
 
 use crate::slot::Slot;
 use crate::table::{Lent, SlotTable};
+use std::error::Error;
 use std::fmt;
 
 /// The most slots that a table may lie in.
@@ -27,37 +28,19 @@ impl SlotsRefusal {
             SlotsRefusal::TooMany => 32,
         }
     }
-
-    fn words(self) -> &'static str
-        ensures { result.now ≡ refusal_words self }
-    {
-        match self {
-            SlotsRefusal::TooMany => "there are too many slots",
-        }
-    }
 }
 
 impl fmt::Display for SlotsRefusal {
     ghost output = { λ refusal. Some (refusal_words refusal) };
 
     fn fmt<W: fmt::Write>(&self, f: &mut fmt::Formatter<W>) -> fmt::Result {
-        f.write_str(self.words())
+        f.write_str(match self {
+            SlotsRefusal::TooMany => "there are too many slots",
+        })
     }
 }
 
-/// Whether a table may lie in n slots.
-fn fits(n: usize) -> bool
-    ensures { result ≡ slots_fit n }
-{
-    n <= MOST
-}
-
-/// How many of n slots a table lies in.
-fn taken(n: usize) -> usize
-    ensures { result ≡ slots_taken n }
-{
-    if fits(n) { n } else { 0 }
-}
+impl Error for SlotsRefusal {}
 
 /// The counts of a table that has no entry.
 pub(crate) fn no_counts() -> [u32; 512]
@@ -74,7 +57,7 @@ impl<'a> Lent<'a> {
         ensures size { length result.slots.now ≡ slots_taken (length slots.old) }
         ensures beyond { result.beyond.now ≡ drop (slots_taken (length slots.old)) slots.old }
     {
-        let n = taken(slots.len());
+        let n = if slots.len() <= MOST { slots.len() } else { 0 };
         let (slots, beyond) = slots.split_at_mut(n);
         Lent { slots, beyond }
     }
@@ -85,7 +68,7 @@ impl<'a> SlotTable<'a> {
     pub fn check(slots: &[Slot]) -> Result<(), SlotsRefusal>
         ensures { slots_answer result ≡ slots_refusal (length slots.now) }
     {
-        if fits(slots.len()) {
+        if slots.len() <= MOST {
             Ok(())
         } else {
             Err(SlotsRefusal::TooMany)

@@ -19,11 +19,10 @@ pub(crate) fn key_chain(partition: u16, name: &[u8], n: usize) -> usize
     ensures is { result ≡ key_code n partition name.now }
     ensures below { result < n }
 {
-    let mut h = partition as usize;
-    for b in name {
-        h = (h * SPREAD + *b as usize) % HASHES;
-    }
-    h % n
+    let hash = name.iter().fold(u32::from(partition), |hash, byte| {
+        ((hash as usize * SPREAD + *byte as usize) % HASHES) as u32
+    });
+    hash as usize % n
 }
 
 /// The chain of a rank in a partition, among n.
@@ -46,9 +45,7 @@ impl Lent<'_> {
         ensures size { length self.new.slots.now ≡ length self.old.slots.now }
         ensures spares { self.new.beyond.now ≡ self.old.beyond.now }
     {
-        for i in 0..self.slots.len() {
-            self.slots[i] = Slot::EMPTY;
-        }
+        self.slots.fill(Slot::EMPTY);
     }
 
     /// Takes the entry out of slot i.
@@ -66,9 +63,7 @@ impl Lent<'_> {
         let by_rank = rank_chain(item.partition, item.rank, n);
         unlink(self.slots, 0, by_key, i);
         unlink(self.slots, 1, by_rank, i);
-        let mut slot = self.slots[i];
-        slot.item.len = 0;
-        self.slots[i] = slot;
+        self.slots[i].item.len = 0;
     }
 
     /// Puts an entry into slot i, which is vacant.
@@ -85,9 +80,7 @@ impl Lent<'_> {
         let by_rank = rank_chain(item.partition, item.rank, n);
         link(self.slots, 0, by_key, i);
         link(self.slots, 1, by_rank, i);
-        let mut slot = self.slots[i];
-        slot.item = item;
-        self.slots[i] = slot;
+        self.slots[i].item = item;
     }
 
     /// Puts another entry into slot i.
