@@ -1,7 +1,7 @@
 -- A place leaves its chain, and comes into another.
-use Rattle.std.proofs.Common.{◌≡◌, ℕ, ◌+◌, ◌-◌, ◌<◌, ◌≤◌, eqb, sym, refl, ap, ◌∙◌, subst, ⊎_elim, arith}
+use Rattle.std.proofs.Common.{◌≡◌, ℕ, zero, suc, ◌+◌, ◌-◌, ◌<◌, ◌≤◌, eqb, List, ◌∷◌, sym, refl, ap, ◌∙◌, subst, ⊎_elim, arith}
 use Rattle.std.proofs.lemmas.Bool.{cases_eq, cases_lt, cond-true, cond-false, eq-eqb, ne_eqb}
-use Rattle.slots.specs.Chains.{Top, Heads, Nexts, Point, Pointed, except}
+use Rattle.slots.specs.Chains.{Top, Heads, Nexts, Point, Pointed, except, members}
 
 pub except_here : (i x : ℕ) (c : ℕ → ℕ) → except i x c i ≡ x
 except_here i x c = cond-true (eqb i i) x (c i) (eq-eqb i i refl)
@@ -154,3 +154,24 @@ module _ (c : ℕ → ℕ) (u n : ℕ) (heads nexts heads' nexts' : ℕ → ℕ)
         (λ e. subst (λ (k : ℕ). Top d k (d k) (nexts' k)) (sym e) (subst (λ (k : ℕ). Top d i k (nexts' i)) (sym code) here))
         (λ e. subst (λ (k : ℕ). Top d j k (nexts' j)) (sym (like j e)) (new_next d like in_done in_other j l e (omega (arith, like j e))))
         (cases_eq j i)
+
+-- the places between the last one and m are not in the chain
+members_gap : (c : ℕ → ℕ) (m b v : ℕ) → v ≤ m → ((j : ℕ) → v ≤ j → j < m → c j ≡ b → ⊥) → members c v b ≡ members c m b
+members_gap c zero b v l f = let e : v ≡ 0 = omega arith in ap (λ (z : ℕ). members c z b) e
+members_gap c (suc m) b v l f =
+    ⊎_elim {C = members c v b ≡ members c (suc m) b}
+    (λ e. ap (λ (z : ℕ). members c z b) e)
+    (λ e. members_gap c m b v (omega arith) (λ j p q. f j p (omega arith)) ∙ sym (cond-false (eqb (c m) b) (m ∷ members c m b) (members c m b) (ne_eqb (c m) b (f m (omega arith) (omega arith)))))
+    (cases_eq v (suc m))
+
+-- the chain from its last place below m on
+pub members_top : (c : ℕ → ℕ) (m b v : ℕ) → Top c m b v → members c v (c (v - 1)) ≡ members c m b
+members_top c m b v t = same v t.2 ∙ members_gap c m b v t.0 t.1
+  where
+    same : (v : ℕ) → (0 < v → c (v - 1) ≡ b) → members c v (c (v - 1)) ≡ members c v b
+    same zero f = refl
+    same (suc v) f = ap (members c (suc v)) (f (omega arith))
+
+-- a place of a chain, and those below it
+pub members_first : (c : ℕ → ℕ) (i v : ℕ) → Top c i (c i) v → members c (suc i) (c i) ≡ i ∷ members c v (c (v - 1))
+members_first c i v t = cond-true (eqb (c i) (c i)) (i ∷ members c i (c i)) (members c i (c i)) (eq-eqb (c i) (c i) refl) ∙ ap (λ (l : List ℕ). i ∷ l) (sym (members_top c i (c i) v t))

@@ -12,7 +12,9 @@ use Rattle.slots.specs.declared.table.SlotTable.{SlotTable}
 use Rattle.slots.specs.Columns.{items, code, codes, key_code}
 use Rattle.slots.specs.Table.{entry_in}
 use Rattle.slots.specs.Held.{held}
+use Rattle.slots.specs.Walk.{blank_item}
 use Rattle.slots.specs.Lawful.{length_use, length_held}
+use Rattle.slots.proofs.ColumnFacts.{no_links}
 use Rattle.slots.proofs.LinkFacts.{items_read, code_key}
 
 -- an entry and a slot to read at, where none was read yet
@@ -21,11 +23,9 @@ blank = record { partition = 0; name = []; number = 0 }
 
 abbrev pub no_slot : Slot
 no_slot = record {
-  item = record { partition = 0; len = 0; name = []; number = 0; rank = 0; short = omega arith };
-  heads = 0 ∷ 0 ∷ [];
-  nexts = 0 ∷ 0 ∷ [];
+  item = blank_item;
+  links = no_links ∷ no_links ∷ [];
   two = refl;
-  both = refl;
 }
 
 pub long : (l : ℕ) (xs : List ℕ) → 1 ≤ length (take l xs) → 0 < l

@@ -4,9 +4,10 @@ use mathlib.Core.Path.{fun_ext}
 use Rattle.std.proofs.lemmas.Bool.{cases_eq, cases_lt, cond-true, cond-false, eq-eqb, ne_eqb, eqb-true, eqb-false}
 use Rattle.std.proofs.lemmas.List.{length-map, length-set, map-set, get_or-set_same, get_or-set_other}
 use Rattle.slots.specs.declared.slot.Item.{Item}
+use Rattle.slots.specs.declared.links.Links.{Links}
 use Rattle.slots.specs.declared.slot.Slot.{Slot}
 use Rattle.slots.specs.Chains.{Top, Heads, Nexts, Point, Pointed, except, top}
-use Rattle.slots.specs.Columns.{HeadsAre, NextsAre, Framed, Linked, Chained, BothLinked, lengths, heads, nexts, items, code, codes, head_column, next_column, key_code, rank_code}
+use Rattle.slots.specs.Columns.{HeadsAre, NextsAre, Framed, Linked, Chained, BothLinked, lengths, heads, nexts, items, code, codes, head_column, next_column, head_in, next_in, key_code, rank_code}
 use Rattle.slots.proofs.ColumnFacts.{column_kept}
 use Rattle.slots.proofs.ChainFacts.{except_here, except_other, unlinked_heads, unlinked_nexts, linked_heads, linked_nexts}
 
@@ -114,7 +115,7 @@ linked_framed k q ss ss₁ n f t =
 -- both families, after slot i was taken out of them or put in, and its item written
 module _ (ss ss₁ ss₂ : List Slot) (i x₀ x₁ : ℕ) (h : i < length ss) (f₀ : Framed 0 ss ss₁) (f₁ : Framed 1 ss₁ ss₂)
     (t₀ : Chained 0 (except i x₀ (codes 0 (length ss) (items ss))) ss₁) (t₁ : Chained 1 (except i x₁ (codes 1 (length ss₁) (items ss₁))) ss₂)
-    (d s : Slot) (hs : s.heads ≡ (get_or ss₂ i d).heads) (ns : s.nexts ≡ (get_or ss₂ i d).nexts) where
+    (d s : Slot) (ls : s.links ≡ (get_or ss₂ i d).links) where
   l₁ : length ss₁ ≡ length ss
   l₁ = framed_length 0 ss ss₁ f₀
 
@@ -128,10 +129,10 @@ module _ (ss ss₁ ss₂ : List Slot) (i x₀ x₁ : ℕ) (h : i < length ss) (f
   written_items = map-set (λ s. s.item) ss₂ i s ∙ ap (λ (l : List Item). set l i s.item) (f₁.items ∙ f₀.items)
 
   heads_kept : (q : ℕ) → head_column q (set ss₂ i s) ≡ head_column q ss₂
-  heads_kept q = column_kept ss₂ i d (omega (arith, l₁, l₂)) (λ s. get_or s.heads q 0) s (ap (λ (l : List ℕ). get_or l q 0) hs)
+  heads_kept q = column_kept ss₂ i d (omega (arith, l₁, l₂)) (head_in q) s (ap (λ (ls : List Links). get_or (map (λ l. l.head.0) ls) q 0) ls)
 
   nexts_kept : (q : ℕ) → next_column q (set ss₂ i s) ≡ next_column q ss₂
-  nexts_kept q = column_kept ss₂ i d (omega (arith, l₁, l₂)) (λ s. get_or s.nexts q 0) s (ap (λ (l : List ℕ). get_or l q 0) ns)
+  nexts_kept q = column_kept ss₂ i d (omega (arith, l₁, l₂)) (next_in q) s (ap (λ (ls : List Links). get_or (map (λ l. l.next.0) ls) q 0) ls)
 
   pub written_linked : code 0 (length ss) s.item ≡ x₀ → code 1 (length ss) s.item ≡ x₁ → BothLinked (set ss₂ i s)
   written_linked c₀ c₁ = (

@@ -1,7 +1,7 @@
 -- A table after a put, a take and a move.
 use Rattle.std.proofs.Common.{◌≡◌, ℕ, zero, suc, ◌+◌, ◌-◌, ◌<◌, ◌≤◌, Bool, true, false, cond, ◌&&◌, eqb, ltb, List, [], ◌∷◌, ◌++◌, map, length, get_or, take, set, Some, count_by, filter, sym, refl, ap, ◌∙◌, subst, ⊎_elim, arith, length-set}
 use Rattle.std.specs.List.{remove, slice_get}
-use Rattle.std.proofs.lemmas.Bool.{cond-true, cond-false, eq-eqb, ne_eqb, eqb-true, lt-ltb, le-ltb, cases_lt, cases_eq, cases_order, and_from, and_parts}
+use Rattle.std.proofs.lemmas.Bool.{cond-true, cond-false, eq-eqb, ne_eqb, eqb-true, lt-ltb, le-ltb, cases_eq, cases_order, and_from, and_parts}
 use Rattle.std.proofs.lemmas.List.{get_or-set_same, get_or-set_other, take_more_set, take-take, get_or-take, get_or-map}
 use Rattle.std.proofs.lemmas.List.Sums.{sum_by_push, sum_by-set, sum_by-cons, get_or-le-sum_by, length-filter}
 use Rattle.names.specs.Names.{class}
@@ -17,6 +17,7 @@ use Rattle.slots.specs.Ranks.{in_rank, Ranked, by_rank}
 use Rattle.slots.specs.Table.{entry_in, entries_in}
 use Rattle.slots.specs.Held.{held, in_use, entries_by_rank}
 use Rattle.slots.specs.Lawful.{length_use, counts_le}
+use Rattle.slots.specs.Lookup.{LacksRank}
 use Rattle.slots.proofs.LinkFacts.{length_items, heads_are, nexts_are, items_length, lengths_other}
 use Rattle.slots.proofs.CountFacts.{counts_add}
 use Rattle.slots.proofs.NthFacts.{nth_ranked}
@@ -208,13 +209,10 @@ module _ (t : SlotTable) (p k : ℕ) (low : p < 512) where
       ∙ ap (λ (x : Item). Some (entry_in x)) (use_item t j d h)
 
   -- each rank below the count is there
-  pub rank_there : (i : ℕ) (d : Slot) → k < get_or t.counts p 0 → (t.used ≤ i → (j : ℕ) → j < t.used → partitions t.lent.slots.now j ≡ p → ranks t.lent.slots.now j ≡ k → ⊥) → i < t.used
-  rank_there i d l miss =
-      ⊎_elim {C = i < t.used} (λ z. z)
-      (λ z.
+  pub rank_there : k < get_or t.counts p 0 → (d : Slot) → LacksRank t p k → ⊥
+  rank_there l d miss =
       let one = t.ranks p k low ∙ cond-true {A = ℕ} (ltb k (get_or t.counts p 0)) 1 0 (lt-ltb k (get_or t.counts p 0) l) in
       let r = index_of (in_rank p k) (in_use t) d.item (omega (arith, one, length-filter (in_rank p k) (in_use t))) in
       let u : r.0 < t.used = omega (arith, r.1, length_use t) in
       let g = and_parts (eqb p (get_or (in_use t) r.0 d.item).partition) (eqb k (get_or (in_use t) r.0 d.item).rank) r.2 in
-      absurd (miss z r.0 u (sym (use_read t (λ r. r.partition) r.0 d u) ∙ sym (eqb-true p _ g.0)) (sym (use_read t (λ r. r.rank) r.0 d u) ∙ sym (eqb-true k _ g.1))))
-      (cases_lt i t.used)
+      miss.none r.0 u (sym (use_read t (λ r. r.partition) r.0 d u) ∙ sym (eqb-true p _ g.0)) (sym (use_read t (λ r. r.rank) r.0 d u) ∙ sym (eqb-true k _ g.1))

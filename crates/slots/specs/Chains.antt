@@ -1,5 +1,5 @@
 -- Chains of places by their codes: each link points to the last place below that has the code.
-use Rattle.std.specs.Prelude.{◌≡◌, ℕ, zero, suc, ◌+◌, ◌-◌, ◌<◌, ◌≤◌, cond, ◌==◌, ◌≢◌}
+use Rattle.std.specs.Prelude.{◌≡◌, ℕ, zero, suc, ◌+◌, ◌-◌, ◌<◌, ◌≤◌, cond, List, [], ◌∷◌, ◌==◌, ◌≢◌}
 
 -- v - 1 is the last place below m whose code is b; v is 0 where there is none
 abbrev pub Top : (ℕ → ℕ) → ℕ → ℕ → ℕ → Type 0
@@ -36,3 +36,8 @@ pub record Pointed (u b m w : ℕ) (heads nexts heads' nexts' : ℕ → ℕ) : T
 abbrev pub top : (ℕ → ℕ) → ℕ → ℕ → ℕ
 top c zero b = 0
 top c (suc m) b = cond (c m == b) (suc m) (top c m b)
+
+-- the places below m whose code is b, from the last one on
+abbrev pub members : (ℕ → ℕ) → ℕ → ℕ → List ℕ
+members c zero b = []
+members c (suc m) b = cond (c m == b) (m ∷ members c m b) (members c m b)

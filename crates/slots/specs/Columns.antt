@@ -30,13 +30,21 @@ code k n r =
 abbrev pub items : List Slot → List Item
 items ss = map (λ s. s.item) ss
 
+-- the head in a slot, in family k
+abbrev pub head_in : ℕ → Slot → ℕ
+head_in k s = slice_index (map (λ l. l.head.0) s.links) k
+
+-- the next in a slot, in family k
+abbrev pub next_in : ℕ → Slot → ℕ
+next_in k s = slice_index (map (λ l. l.next.0) s.links) k
+
 -- the heads in the slots, in family k
 abbrev pub head_column : ℕ → List Slot → List ℕ
-head_column k ss = map (λ s. slice_index s.heads k) ss
+head_column k ss = map (head_in k) ss
 
 -- the nexts in the slots, in family k
 abbrev pub next_column : ℕ → List Slot → List ℕ
-next_column k ss = map (λ s. slice_index s.nexts k) ss
+next_column k ss = map (next_in k) ss
 
 -- the head of chain b
 abbrev pub heads : ℕ → List Slot → ℕ → ℕ

@@ -43,14 +43,16 @@ module _ (t : SlotTable) where
   pub counts_le : (p : ℕ) → p < 512 → slice_index t.counts p ≤ t.used
   counts_le p l = omega (arith, t.counted p l, length-filter (λ e. nat_eq p e.partition) (held t), count_by-le-length (λ e. nat_eq p e.partition) (held t), length_held)
 
-  pub rank_low : (j : ℕ) (d : Item) → j < length (in_use t) → (get_or (in_use t) j d).rank < t.used
-  rank_low j d h =
+  pub rank_counted : (j : ℕ) (d : Item) → j < length (in_use t) → (get_or (in_use t) j d).rank < slice_index t.counts (get_or (in_use t) j d).partition
+  rank_counted j d h =
       let x = get_or (in_use t) j d in
       let f = in_rank x.partition x.rank in
       let s = get_or-le-sum_by (λ y. cond (f y) 1 0) (in_use t) j d h in
       let k = cond-true {A = ℕ} (f x) 1 0 (and_from _ _ (eq-eqb x.partition x.partition refl) (eq-eqb x.rank x.rank refl)) in
-      let l = part_low j d h in
-      omega (arith, rank_below x.partition x.rank l (omega (arith, s, k)), counts_le x.partition l)
+      rank_below x.partition x.rank (part_low j d h) (omega (arith, s, k))
+
+  pub rank_low : (j : ℕ) (d : Item) → j < length (in_use t) → (get_or (in_use t) j d).rank < t.used
+  rank_low j d h = omega (arith, rank_counted j d h, counts_le (get_or (in_use t) j d).partition (part_low j d h))
 
   pub by_rank_perm : Perm (held t) (entries_by_rank t)
   by_rank_perm = perm_map entry_in (ranked_perm t.used (in_use t) rank_low)

@@ -1,75 +1,136 @@
-ghost use Rattle.std.specs.Prelude.{◌≡◌, ℕ, ◌<◌, ◌≤◌, length};
+ghost use Rattle.std.specs.Prelude.{◌≡◌, ℕ, ◌-◌, ◌<◌, ◌≤◌, length};
 ghost use Rattle.slots.specs.Chains.{Point, Pointed, except};
 ghost use Rattle.slots.specs.Columns.{Linked, Chained, Framed, codes, items, heads, nexts};
+ghost use Rattle.slots.specs.Links.{family_number};
+ghost use Rattle.slots.specs.Pointers.{place_of, chain_of, stands_in};
 
-use crate::slot::Slot;
+use crate::links::{Family, Link};
+use crate::slot::{Item, Slot};
 
-/// What pointer m of chain b says, in family k: the chain's head where m is the number of slots, else what is next after slot m.
-fn value(slots: &[Slot], k: usize, b: usize, m: usize) -> u32
-    requires { (k < 2) × ((b < length slots.now) × (m ≤ length slots.now)) }
-    ensures head { m ≡ length slots.now → result ≡ heads k slots.now b }
-    ensures next { m < length slots.now → result ≡ nexts k slots.now m }
-{
-    if m == slots.len() {
-        slots[b].heads[k]
-    } else {
-        slots[m].nexts[k]
+/// A walk of a chain of a family, from its head on: it gives the number and the item of each slot. The numbers fall.
+#[derive(Drop)]
+pub(crate) struct Chain<'a> {
+    slots: &'a [Slot],
+    family: Family,
+    at: Link,
+    ghost linked: { Linked (family_number family) slots.now },
+    ghost within: { at.0 ≤ length slots.now },
+    ghost coded: { 0 < at.0 → codes (family_number family) (length slots.now) (items slots.now) (at.0 - 1) < length slots.now },
+}
+
+impl<'a> Chain<'a> {
+    ghost use Rattle.slots.specs.Walk.{chain_below, slots_left};
+
+    /// The walk of chain b.
+    pub(crate) fn new(slots: &'a [Slot], family: Family, b: usize) -> Chain<'a>
+        requires below { b < length slots.now }
+        requires linked { Linked (family_number family) slots.now }
+        ensures slots { result.slots.now ≡ slots.now }
+        ensures left { slots_left result ≡ chain_below (family_number family) slots.now (length slots.now) b }
+    {
+        Chain {
+            slots,
+            family,
+            at: slots[b].links[family.index()].head,
+        }
     }
 }
 
-/// Sets that pointer.
-fn point(slots: &mut [Slot], k: usize, b: usize, m: usize, w: u32)
-    requires { (k < 2) × ((b < length slots.old) × (m ≤ length slots.old)) }
-    ensures pointed { Pointed (length slots.old) b m w (heads k slots.old) (nexts k slots.old) (heads k slots.new) (nexts k slots.new) }
-    ensures framed { Framed k slots.old slots.new }
-{
-    if m == slots.len() {
-        let slot = &mut slots[b];
-        slot.heads[k] = w;
-    } else {
-        let slot = &mut slots[m];
-        slot.nexts[k] = w;
+impl<'a> Iterator for Chain<'a> {
+    ghost use Rattle.std.specs.Iterator.{YieldsFirstBy, item_count};
+    ghost use Rattle.slots.specs.Walk.{items_left};
+
+    type Item = (usize, &'a Item);
+
+    ghost next_gives = { YieldsFirstBy (λ slot. (slot.0, slot.1.now)) items_left };
+
+    ghost remaining = { item_count items_left };
+
+    fn next(&mut self) -> Option<(usize, &'a Item)> {
+        let i = self.at.slot()?;
+        let slot = &self.slots[i];
+        self.at = slot.links[self.family.index()].next;
+        Some((i, &slot.item))
+    }
+}
+
+/// Where a link stands in a family: it is the head of a chain, or what is next after a slot.
+#[derive(Clone, Copy)]
+pub(crate) enum Pointer {
+    Head(usize),
+    Next(usize),
+}
+
+impl Pointer {
+    /// The link there.
+    fn link(self, slots: &[Slot], family: Family) -> Link
+        requires { stands_in self < length slots.now }
+        ensures head { (b : ℕ) → chain_of b self ≡ b → place_of (length slots.now) self ≡ length slots.now → result.0 ≡ heads (family_number family) slots.now b }
+        ensures next { place_of (length slots.now) self < length slots.now → result.0 ≡ nexts (family_number family) slots.now (place_of (length slots.now) self) }
+    {
+        match self {
+            Pointer::Head(b) => slots[b].links[family.index()].head,
+            Pointer::Next(i) => slots[i].links[family.index()].next,
+        }
+    }
+
+    /// Sets that link.
+    fn set(self, slots: &mut [Slot], family: Family, link: Link)
+        requires { stands_in self < length slots.old }
+        ensures pointed { (b : ℕ) → chain_of b self ≡ b → Pointed (length slots.old) b (place_of (length slots.old) self) link.0 (heads (family_number family) slots.old) (nexts (family_number family) slots.old) (heads (family_number family) slots.new) (nexts (family_number family) slots.new) }
+        ensures framed { Framed (family_number family) slots.old slots.new }
+    {
+        match self {
+            Pointer::Head(b) => {
+                let slot = &mut slots[b];
+                slot.links[family.index()].head = link;
+            }
+            Pointer::Next(i) => {
+                let slot = &mut slots[i];
+                slot.links[family.index()].next = link;
+            }
+        }
     }
 }
 
 /// The pointer of chain b that passes slot i: the first from the head on that points to i or below.
-fn seek(slots: &[Slot], k: usize, b: usize, i: usize) -> usize
-    requires sizes { (k < 2) × ((b < length slots.now) × (i < length slots.now)) }
-    requires linked { Linked k slots.now }
-    ensures { (v : ℕ) × Point (codes k (length slots.now) (items slots.now)) (length slots.now) b i result v }
+fn seek(slots: &[Slot], family: Family, b: usize, i: usize) -> Pointer
+    requires sizes { (b < length slots.now) × (i < length slots.now) }
+    requires linked { Linked (family_number family) slots.now }
+    ensures chain { chain_of b result ≡ b }
+    ensures stands { stands_in result < length slots.now }
+    ensures point { (v : ℕ) × Point (codes (family_number family) (length slots.now) (items slots.now)) (length slots.now) b i (place_of (length slots.now) result) v }
 {
-    let mut m = slots.len();
-    let mut v = slots[b].heads[k] as usize;
-    while v > i + 1 {
-        m = v - 1;
-        v = slots[m].nexts[k] as usize;
-    }
-    m
+    Chain::new(slots, family, b)
+        .map(|(j, _)| j)
+        .take_while(|j| *j > i)
+        .last()
+        .map_or(Pointer::Head(b), Pointer::Next)
 }
 
 /// Takes slot i out of its chain b.
-pub(crate) fn unlink(slots: &mut [Slot], k: usize, b: usize, i: usize)
-    requires sizes { (k < 2) × ((b < length slots.old) × (i < length slots.old)) }
-    requires linked { Linked k slots.old }
-    requires coded { codes k (length slots.old) (items slots.old) i ≡ b }
-    ensures chained { Chained k (except i (length slots.old) (codes k (length slots.old) (items slots.old))) slots.new }
-    ensures framed { Framed k slots.old slots.new }
+pub(crate) fn unlink(slots: &mut [Slot], family: Family, b: usize, i: usize)
+    requires sizes { (b < length slots.old) × (i < length slots.old) }
+    requires linked { Linked (family_number family) slots.old }
+    requires coded { codes (family_number family) (length slots.old) (items slots.old) i ≡ b }
+    ensures chained { Chained (family_number family) (except i (length slots.old) (codes (family_number family) (length slots.old) (items slots.old))) slots.new }
+    ensures framed { Framed (family_number family) slots.old slots.new }
 {
-    let m = seek(slots, k, b, i);
-    let after = slots[i].nexts[k];
-    point(slots, k, b, m, after);
+    let pointer = seek(slots, family, b, i);
+    let after = Pointer::Next(i).link(slots, family);
+    pointer.set(slots, family, after);
 }
 
 /// Puts slot i, which is in no chain, into chain b.
-pub(crate) fn link(slots: &mut [Slot], k: usize, b: usize, i: usize)
-    requires sizes { (k < 2) × ((b < length slots.old) × ((i < length slots.old) × (length slots.old ≤ 1048576))) }
-    requires linked { Linked k slots.old }
-    requires free { length slots.old ≤ codes k (length slots.old) (items slots.old) i }
-    ensures chained { Chained k (except i b (codes k (length slots.old) (items slots.old))) slots.new }
-    ensures framed { Framed k slots.old slots.new }
+pub(crate) fn link(slots: &mut [Slot], family: Family, b: usize, i: usize)
+    requires sizes { (b < length slots.old) × ((i < length slots.old) × (length slots.old ≤ 1048576)) }
+    requires linked { Linked (family_number family) slots.old }
+    requires free { length slots.old ≤ codes (family_number family) (length slots.old) (items slots.old) i }
+    ensures chained { Chained (family_number family) (except i b (codes (family_number family) (length slots.old) (items slots.old))) slots.new }
+    ensures framed { Framed (family_number family) slots.old slots.new }
 {
-    let m = seek(slots, k, b, i);
-    let after = value(slots, k, b, m);
-    point(slots, k, b, i, after);
-    point(slots, k, b, m, (i + 1) as u32);
+    let pointer = seek(slots, family, b, i);
+    let after = pointer.link(slots, family);
+    Pointer::Next(i).set(slots, family, after);
+    pointer.set(slots, family, Link::to(i));
 }

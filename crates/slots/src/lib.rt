@@ -9,6 +9,7 @@ ghost use Rattle.slots.specs.Held.{beyond, entries_by_rank, room_of};
 ghost use Rattle.slots.specs.Lawful.{lawful, weighty, within};
 
 mod chains;
+mod links;
 mod lookup;
 mod making;
 mod places;
@@ -36,12 +37,8 @@ impl Store for SlotTable<'_> {
     ghost within = { within };
 
     fn find(&self, partition: u16, name: &[u8]) -> Option<u64> {
-        let i = self.place(partition, name);
-        if i < self.used {
-            Some(self.number_at(i))
-        } else {
-            None
-        }
+        let slot = self.place(partition, name)?;
+        Some(self.number_at(slot))
     }
 
     fn put(&mut self, partition: u16, name: &[u8], number: u64) -> Result<(), PutError>
@@ -53,18 +50,17 @@ impl Store for SlotTable<'_> {
         if !is_key(partition, name) {
             return Err(PutError::BadKey);
         }
-        if self.place(partition, name) < self.used {
+        if self.place(partition, name).is_some() {
             return Err(PutError::Present);
         }
         if self.used >= self.lent.slots.len() {
             return Err(PutError::Full);
         }
-        let last = self.used;
-        let p = partition as usize;
-        let item = Item::holding(partition, name, number, self.counts[p]);
-        self.lent.occupy(last, item);
-        self.used = last + 1;
-        self.counts[p] += 1;
+        let rank = self.counts[partition as usize];
+        let item = Item::holding(partition, name, number, rank);
+        self.lent.occupy(self.used, item);
+        self.used += 1;
+        self.counts[partition as usize] += 1;
         Ok(())
     }
 
@@ -74,22 +70,15 @@ impl Store for SlotTable<'_> {
         ensures keeps { room_of self.new ≡ room_of self.old }
         ensures spares { beyond self.new ≡ beyond self.old }
     {
-        let i = self.place(partition, name);
-        if i >= self.used {
-            return None;
-        }
-        let p = partition as usize;
-        let gone = self.lent.slots[i].item;
-        let count = self.counts[p] - 1;
-        let j = self.at_rank(partition, count);
-        let mut item = self.lent.slots[j].item;
-        item.rank = gone.rank;
+        let i = self.place(partition, name)?;
+        let number = self.lent.slots[i].item.number;
+        let (j, heir) = self.heir(i);
         let last = self.used - 1;
-        self.lent.rewrite(j, item);
+        self.lent.rewrite(j, heir);
         self.lent.remove(last, i);
         self.used = last;
-        self.counts[p] = count;
-        Some(gone.number)
+        self.counts[partition as usize] -= 1;
+        Some(number)
     }
 
     fn relocate(&mut self, from: u16, to: u16, name: &[u8]) -> Result<(), MoveError>
@@ -98,26 +87,21 @@ impl Store for SlotTable<'_> {
         ensures keeps { room_of self.new ≡ room_of self.old }
         ensures spares { beyond self.new ≡ beyond self.old }
     {
-        let i = self.place(from, name);
-        if i >= self.used || to > LAST_PARTITION {
+        let i = self.place(from, name).ok_or(MoveError::Absent)?;
+        if to > LAST_PARTITION {
             return Err(MoveError::Absent);
         }
-        if self.place(to, name) < self.used {
+        if self.place(to, name).is_some() {
             return Err(MoveError::Present);
         }
-        let p = from as usize;
-        let q = to as usize;
+        let (j, heir) = self.heir(i);
         let mut moved = self.lent.slots[i].item;
-        let count = self.counts[p] - 1;
-        let j = self.at_rank(from, count);
-        let mut item = self.lent.slots[j].item;
-        item.rank = moved.rank;
         moved.partition = to;
-        moved.rank = self.counts[q];
-        self.lent.rewrite(j, item);
+        moved.rank = self.counts[to as usize];
+        self.lent.rewrite(j, heir);
         self.lent.rewrite(i, moved);
-        self.counts[p] = count;
-        self.counts[q] += 1;
+        self.counts[from as usize] -= 1;
+        self.counts[to as usize] += 1;
         Ok(())
     }
 
@@ -126,12 +110,8 @@ impl Store for SlotTable<'_> {
     }
 
     fn entry(&self, partition: u16, k: usize, name: &mut [u8; 32]) -> Option<ListedEntry> {
-        let i = self.kth(partition, k);
-        if i < self.used {
-            Some(self.listed_at(i, name))
-        } else {
-            None
-        }
+        let i = self.kth(partition, k)?;
+        Some(self.listed_at(i, name))
     }
 
     fn clear(&mut self)

@@ -1,12 +1,14 @@
-ghost use Rattle.std.specs.Prelude.{◌≡◌, ℕ, ◌<◌, ◌≤◌, true, length, Some, None, ◌≢◌};
+ghost use Rattle.std.specs.Prelude.{◌≡◌, ◌<◌, ◌≤◌, IfNone, IfSome, length, Some, None};
 ghost use Rattle.std.specs.List.{slice_get};
 ghost use Rattle.store.specs.Calls.{listed, padded};
-ghost use Rattle.store.specs.Entries.{entry_of, found, has_key, holds, index, inside};
-ghost use Rattle.slots.specs.Columns.{partitions, ranks};
+ghost use Rattle.store.specs.Entries.{entry_of, has_key, inside};
 ghost use Rattle.slots.specs.Held.{held, found_at, entries_by_rank};
+ghost use Rattle.slots.specs.Lookup.{HasKeyAt, LacksKey, HasRankAt, LacksRank, TakesOver};
 ghost use Rattle.slots.specs.Ranks.{in_rank};
 ghost use Rattle.slots.specs.Table.{entry_in};
 
+use crate::chains::Chain;
+use crate::links::Family;
 use crate::places::{key_chain, rank_chain};
 use crate::slot::{Item, padded};
 use crate::table::SlotTable;
@@ -45,27 +47,19 @@ impl Item {
 }
 
 impl SlotTable<'_> {
-    /// The slot of the entry with the key, or how many entries there are.
-    pub(crate) fn place(&self, partition: u16, name: &[u8]) -> usize
-        ensures is { result ≡ index (held self.now) partition name.now }
-        ensures hit { result < self.now.used → found (entries_by_rank self.now) partition name.now ≡ found_at self.now result }
-        ensures there { result < self.now.used → holds (entries_by_rank self.now) partition name.now ≡ true }
-        ensures miss { self.now.used ≤ result → found (entries_by_rank self.now) partition name.now ≡ None }
+    /// The slot of the entry with the key.
+    pub(crate) fn place(&self, partition: u16, name: &[u8]) -> Option<usize>
+        ensures hit { IfSome result (HasKeyAt self.now partition name.now) }
+        ensures miss { IfNone result (LacksKey self.now partition name.now) }
     {
         let slots = &*self.lent.slots;
         if slots.is_empty() {
-            return self.used;
+            return None;
         }
         let b = key_chain(partition, name, slots.len());
-        let mut v = slots[b].heads[0] as usize;
-        while v > 0 {
-            let slot = &slots[v - 1];
-            if slot.item.has_key(partition, name) {
-                return v - 1;
-            }
-            v = slot.nexts[0] as usize;
-        }
-        self.used
+        Chain::new(slots, Family::Key, b)
+            .find(|(_, item)| item.has_key(partition, name))
+            .map(|(i, _)| i)
     }
 
     /// The record number of the entry in slot i.
@@ -102,36 +96,44 @@ impl SlotTable<'_> {
         }
     }
 
-    /// The slot of the entry with this rank in the partition, or how many entries there are.
-    pub(crate) fn at_rank(&self, partition: u16, rank: u32) -> usize
-        ensures hit { result < self.now.used → (partitions self.now.lent.slots.now result ≡ partition) × (ranks self.now.lent.slots.now result ≡ rank) }
-        ensures miss { self.now.used ≤ result → (j : ℕ) → j < self.now.used → partitions self.now.lent.slots.now j ≡ partition → ranks self.now.lent.slots.now j ≢ rank }
+    /// The slot of the entry with this rank in the partition.
+    pub(crate) fn at_rank(&self, partition: u16, rank: u32) -> Option<usize>
+        ensures hit { IfSome result (HasRankAt self.now partition rank) }
+        ensures miss { IfNone result (LacksRank self.now partition rank) }
     {
         let slots = &*self.lent.slots;
         if slots.is_empty() {
-            return self.used;
+            return None;
         }
         let b = rank_chain(partition, rank, slots.len());
-        let mut v = slots[b].heads[1] as usize;
-        while v > 0 {
-            let slot = &slots[v - 1];
-            if slot.item.is_ranked(partition, rank) {
-                return v - 1;
-            }
-            v = slot.nexts[1] as usize;
-        }
-        self.used
+        Chain::new(slots, Family::Rank, b)
+            .find(|(_, item)| item.is_ranked(partition, rank))
+            .map(|(i, _)| i)
     }
 
-    /// The slot of entry k of a partition, or how many entries there are.
-    pub(crate) fn kth(&self, partition: u16, k: usize) -> usize
-        ensures hit { result < self.now.used → slice_get (inside (entries_by_rank self.now) partition) k ≡ slice_get (held self.now) result }
-        ensures miss { self.now.used ≤ result → slice_get (inside (entries_by_rank self.now) partition) k ≡ None }
+    /// The slot of the last entry of a partition, that of slot i, and its item with the rank of slot i: it takes over when that entry goes.
+    pub(crate) fn heir(&self, i: usize) -> (usize, Item)
+        requires { i < self.now.used }
+        ensures { TakesOver self.now i result.0 result.1 }
     {
-        if k >= self.count_in(partition) as usize {
-            self.used
-        } else {
+        let slots = &*self.lent.slots;
+        let gone = &slots[i].item;
+        let last = self.counts[gone.partition as usize] - 1;
+        let j = self.at_rank(gone.partition, last).unwrap();
+        let mut item = slots[j].item;
+        item.rank = gone.rank;
+        (j, item)
+    }
+
+    /// The slot of entry k of a partition.
+    pub(crate) fn kth(&self, partition: u16, k: usize) -> Option<usize>
+        ensures hit { IfSome result (λ i. (i < self.now.used) × (slice_get (inside (entries_by_rank self.now) partition) k ≡ slice_get (held self.now) i)) }
+        ensures miss { IfNone result (slice_get (inside (entries_by_rank self.now) partition) k ≡ None) }
+    {
+        if k < self.count_in(partition) as usize {
             self.at_rank(partition, k as u32)
+        } else {
+            None
         }
     }
 }

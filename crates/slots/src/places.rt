@@ -4,6 +4,7 @@ ghost use Rattle.slots.specs.Columns.{BothLinked, HeadsAre, NextsAre, lengths, i
 ghost use Rattle.slots.specs.Table.{Free};
 
 use crate::chains::{link, unlink};
+use crate::links::Family;
 use crate::slot::{Item, Slot};
 use crate::table::Lent;
 
@@ -61,8 +62,8 @@ impl Lent<'_> {
         let item = self.slots[i].item;
         let by_key = key_chain(item.partition, &item.name[0..item.len as usize], n);
         let by_rank = rank_chain(item.partition, item.rank, n);
-        unlink(self.slots, 0, by_key, i);
-        unlink(self.slots, 1, by_rank, i);
+        unlink(self.slots, Family::Key, by_key, i);
+        unlink(self.slots, Family::Rank, by_rank, i);
         self.slots[i].item.len = 0;
     }
 
@@ -78,8 +79,8 @@ impl Lent<'_> {
         let n = self.slots.len();
         let by_key = key_chain(item.partition, &item.name[0..item.len as usize], n);
         let by_rank = rank_chain(item.partition, item.rank, n);
-        link(self.slots, 0, by_key, i);
-        link(self.slots, 1, by_rank, i);
+        link(self.slots, Family::Key, by_key, i);
+        link(self.slots, Family::Rank, by_rank, i);
         self.slots[i].item = item;
     }
 

@@ -1,5 +1,7 @@
 ghost use Rattle.std.specs.Prelude.{◌≡◌, ◌-◌, ◌≤◌, ◌++◌, length, replicate};
 
+use crate::links::{Link, Links};
+
 /// An entry in its slot: its partition, the first `len` bytes of `name`, its record number, and its rank among the entries of its
 /// partition. A slot whose item has `len` 0 is vacant.
 #[derive(Clone, Copy)]
@@ -12,17 +14,12 @@ pub(crate) struct Item {
     ghost short: { len ≤ 32 },
 }
 
-/// A place for an entry, in a slice that the caller lends to a `SlotTable`.
-///
-/// There are two families of chains, by key and by rank. In each a slot has the head of one chain, and the next after its own entry in that
-/// entry's chain. A head or a next is one more than a slot's number, or 0.
+/// A place for an entry, in a slice that the caller lends to a `SlotTable`. It has the links of both families of chains.
 #[derive(Clone, Copy)]
 pub struct Slot {
     pub(crate) item: Item,
-    pub(crate) heads: [u32; 2],
-    pub(crate) nexts: [u32; 2],
-    ghost two: { length heads ≡ 2 },
-    ghost both: { length nexts ≡ 2 },
+    pub(crate) links: [Links; 2],
+    ghost two: { length links ≡ 2 },
 }
 
 impl Slot {
@@ -34,8 +31,10 @@ impl Slot {
             number: 0,
             rank: 0,
         },
-        heads: [0; 2],
-        nexts: [0; 2],
+        links: [Links {
+            head: Link::NONE,
+            next: Link::NONE,
+        }; 2],
     };
 }
 

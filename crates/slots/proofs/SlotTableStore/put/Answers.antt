@@ -8,6 +8,7 @@ use Rattle.store.proofs.AnswerFacts.{put_full, put_added, put_answer_perm}
 use Rattle.slots.specs.Held.{held, room_for, room_of}
 use Rattle.slots.specs.Lawful.{used_held, length_held, by_rank_perm}
 use Rattle.slots.proofs.LinkFacts.{items_length}
+use Rattle.slots.proofs.ChainWalk.{lacks}
 use Rattle.slots.proofs.CountFacts.{count_le}
 use Rattle.slots.proofs.StateFacts.{missed, linked_of, key_low}
 use Rattle.slots.proofs.RankState.{put_made, added_perm}
@@ -16,7 +17,7 @@ use Rattle.slots.proofs.SlotTableStore.put.Goals as goal
 pub returns-then-self : goal.returns-then-self
 returns-then-self c =
     let t = c.args.self.now in
-    let h = missed t _ _ _ c.place.ensures.is c.if-place-self.false in
+    let h = missed t t.used _ _ (lacks c.place.result c.place.ensures.miss (sym c.is_some.ensures ∙ c.if-is_some.false)).is (omega arith) in
     record { gives = sym (put_full class (room_of t) (held t) _ _ (sym c.if-not-is_key.ensures) h.has (omega (arith, used_held t))) ∙ put_answer_perm class (room_of t) c.args.partition c.args.name.now (by_rank_perm t); leaves = refl; keeps = refl; spares = refl }
 
 pub occupy-requires : goal.occupy-requires
@@ -35,7 +36,7 @@ pub invariant_of-self : goal.invariant_of-self
 invariant_of-self c =
     let t = c.args.self.now in
     let x = entry_of c.args.partition c.args.name.now c.args.number in
-    let h = missed t _ _ _ c.place.ensures.is c.if-place-self.false in
+    let h = missed t t.used _ _ (lacks c.place.result c.place.ensures.miss (sym c.is_some.ensures ∙ c.if-is_some.false)).is (omega arith) in
     let z = put_made t c.occupy.new.self c.holding-item.result x c.occupy.ensures.linked c.occupy.ensures.now c.if-self.false c.holding-item.ensures.holds (sym c.if-not-is_key.ensures) h.has c.holding-item.ensures.rank in
     record { within = z.within; few = z.few; lawful = z.lawful; keyheads = z.keyheads; keynexts = z.keynexts; rankheads = z.rankheads; ranknexts = z.ranknexts; free = z.free; wide = z.wide; ranks = z.ranks; counted = z.counted }
 
@@ -43,7 +44,7 @@ pub returns : goal.returns
 returns c =
     let t = c.args.self.now in
     let x = entry_of c.args.partition c.args.name.now c.args.number in
-    let h = missed t _ _ _ c.place.ensures.is c.if-place-self.false in
+    let h = missed t t.used _ _ (lacks c.place.result c.place.ensures.miss (sym c.is_some.ensures ∙ c.if-is_some.false)).is (omega arith) in
     let z = put_made t c.occupy.new.self c.holding-item.result x c.occupy.ensures.linked c.occupy.ensures.now c.if-self.false c.holding-item.ensures.holds (sym c.if-not-is_key.ensures) h.has c.holding-item.ensures.rank in
     let p = added_perm t c.occupy.new.self c.holding-item.result x c.occupy.ensures.linked c.occupy.ensures.now c.if-self.false c.holding-item.ensures.holds (sym c.if-not-is_key.ensures) h.has c.holding-item.ensures.rank in
     record {

@@ -1,27 +1,31 @@
-use Rattle.std.proofs.Common.{◌≡◌, ℕ, ◌-◌, length, get_or, sym, subst, arith}
-use Rattle.slots.specs.Chains.{Top}
-use Rattle.slots.specs.Columns.{codes, items, nexts}
-use Rattle.slots.proofs.ColumnFacts.{column_read}
+use Rattle.std.proofs.Common.{◌≡◌, ℕ, ltb, List, map, length, take, None, sym, ap, ◌∙◌, subst, rules, tests, arith}
+use Rattle.std.specs.List.{prefix_len, last_or}
+use Rattle.std.proofs.lemmas.Iterator.{YieldsList-from_map, items_from_drains}
+use Rattle.std.proofs.lemmas.Iterator.Consumers.{YieldsList-from_first, YieldsList-at}
+use Rattle.std.proofs.lemmas.Iterator.Search.{YieldsList-from_take_while}
+use Rattle.slots.specs.declared.slot.Slot.{Slot}
+use Rattle.slots.specs.Columns.{codes, items}
+use Rattle.slots.specs.Links.{family_number}
+use Rattle.slots.specs.Walk.{chain_below, numbered, items_left, slots_left}
+use Rattle.slots.proofs.ChainWalk.{Passes, pass, passed, numbers_of, same_items}
 use Rattle.slots.proofs.chains.seek.Goals as goal
 
-pub loop-v-init : goal.loop-v-init
-loop-v-init c =
+pub returns : goal.returns
+returns c =
     let ss = c.args.slots.now in
-    let r = column_read ss c.args.b c.index-slots-b.result (omega arith) (λ s. get_or s.heads c.args.k 0) in
-    (omega arith, omega arith, (λ h. absurd (omega arith)), subst (λ (v : ℕ). Top (codes c.args.k (length ss) (items ss)) (length ss) c.args.b v) (sym r) (c.requires.linked.0 c.args.b (omega arith)))
-
-next : (c : goal.After-index-slots-m) → Top (codes c.args.k (length c.args.slots.now) (items c.args.slots.now)) (c.loop-v.v - 1) c.args.b (get_or (get_or c.args.slots.now (c.loop-v.v - 1) c.index-slots-m.result).nexts c.args.k 0)
-next c =
-    let ss = c.args.slots.now in
-    let j = c.loop-v.v - 1 in
-    let cs = codes c.args.k (length ss) (items ss) in
-    let t = c.loop-v.invariant.3 in
-    let e : cs j ≡ c.args.b = t.2 (omega arith) in
-    let r = column_read ss j c.index-slots-m.result (omega (arith, t.0, c.loop-v.invariant.1)) (λ s. get_or s.nexts c.args.k 0) in
-    subst (λ (v : ℕ). Top cs j c.args.b v) (sym r) (subst (λ (b : ℕ). Top cs j b (nexts c.args.k ss j)) e (c.requires.linked.1 j (omega (arith, t.0, c.loop-v.invariant.1)) (omega arith)))
-
-pub loop-v-smaller : goal.loop-v-smaller
-loop-v-smaller c = omega (arith, (next c).0)
-
-pub loop-v-preserved : goal.loop-v-preserved
-loop-v-preserved c = (omega arith, omega (arith, c.loop-v.invariant.3.0, c.loop-v.invariant.1), (λ _. c.loop-v.invariant.3.2 (omega arith)), next c)
+    let n = length ss in
+    let k = family_number c.args.family in
+    let ms = chain_below k ss n c.args.b in
+    let test : ℕ → _ = λ j. ltb c.args.i j in
+    let left : items_left c.new.result ≡ map (numbered ss) ms = ap (λ (l : List Slot). map (numbered l) (slots_left c.new.result)) c.new.ensures.slots ∙ ap (map (numbered ss)) c.new.ensures.left in
+    let ran = c.last.ensures.ran in
+    let gave =
+    items_from_drains ran.0 (ran.1.1.0, ran.1.1.1, λ _. (ran.1.0, ran.1.1.2))
+    (YieldsList-from_take_while _ test
+    (YieldsList-at c.take_while.ensures.source (YieldsList-from_map _ (λ x. x.0) (YieldsList-at c.map.ensures.source (YieldsList-from_first (λ x. (x.0, x.1.now)) items_left (map (numbered ss) ms) left)) c.map.ensures.closure (λ x r q k. search rules)))
+    c.take_while.ensures.closure c.take_while.ensures.done (λ x b q k. search (rules, tests))) in
+    let xs : ran.0 ≡ take (prefix_len test ms) ms = sym (same_items ran.0) ∙ gave ∙ ap (λ (l : List ℕ). take (prefix_len test l) l) (numbers_of ss ms) in
+    let last : c.last.result ≡ last_or None (take (prefix_len test ms) ms) = ran.2 ∙ ap (last_or None) xs in
+    let p = pass (codes k n (items ss)) n c.args.b c.args.i n None (omega arith) (omega arith) (omega arith) (λ h. absurd (omega arith)) tt (λ j a b. absurd (omega arith)) in
+    let r = passed (codes k n (items ss)) n c.args.b c.args.i c.last.result c.map_or.result (omega arith) (subst (Passes (codes k n (items ss)) n c.args.b c.args.i) (sym last) p) (λ e. let h = rw e at c.map_or.ensures in h) (λ j e. let h = rw e at c.map_or.ensures in search rules) in
+    record { chain = r.0; stands = r.1; point = (r.2, r.3) }

@@ -8,7 +8,7 @@ pub link-requires : goal.link-requires
 link-requires c =
     let ss = c.args.self.now.slots.now in
     record {
-      sizes = (omega arith, (omega arith, (omega arith, omega arith)));
+      sizes = (omega arith, (omega arith, omega arith));
       linked = c.requires.linked.0;
       free = omega (arith, code_free 0 (length ss) (items ss) c.args.i (omega (arith, length_items ss)) c.requires.vacant);
     }
@@ -21,7 +21,7 @@ link-requires-2 c =
     let l = framed_length 0 ss s₁ f in
     let e : lengths s₁ c.args.i ≡ 0 = ap (λ rs. get_or (map (λ r. r.len) rs) c.args.i 0) f.items ∙ c.requires.vacant in
     record {
-      sizes = (omega arith, (omega arith, (omega arith, omega arith)));
+      sizes = (omega arith, (omega arith, omega arith));
       linked = linked_framed 0 1 ss s₁ (λ z. absurd (omega arith)) f c.requires.linked.1;
       free = omega (arith, code_free 1 (length s₁) (items s₁) c.args.i (omega (arith, length_items s₁)) e);
     }
@@ -35,7 +35,7 @@ returns c =
     let k₀ = code_key (length ss) r (omega arith) ∙ sym (c.key_chain-by_key.ensures.is ∙ ap (λ (z : ℕ). key_code (length ss) r.partition (take z r.name)) (sub-zero r.len)) in
     let k₁ = code_rank (length ss) r (omega arith) ∙ sym c.rank_chain-by_rank.ensures.is in
     record {
-      linked = written_linked ss s₁ s₂ c.args.i _ _ (omega arith) c.link.ensures.framed c.link-2.ensures.framed c.link.ensures.chained c.link-2.ensures.chained c.index-self-i.result _ refl refl k₀ k₁;
-      now = written_items ss s₁ s₂ c.args.i c.key_chain-by_key.result c.rank_chain-by_rank.result (omega arith) c.link.ensures.framed c.link-2.ensures.framed c.link.ensures.chained c.link-2.ensures.chained c.index-self-i.result _ refl refl;
+      linked = written_linked ss s₁ s₂ c.args.i _ _ (omega arith) c.link.ensures.framed c.link-2.ensures.framed c.link.ensures.chained c.link-2.ensures.chained c.index-self-i.result _ refl k₀ k₁;
+      now = written_items ss s₁ s₂ c.args.i c.key_chain-by_key.result c.rank_chain-by_rank.result (omega arith) c.link.ensures.framed c.link-2.ensures.framed c.link.ensures.chained c.link-2.ensures.chained c.index-self-i.result _ refl;
       spares = refl;
     }

@@ -10,7 +10,7 @@ unlink-requires c =
     let r = (get_or ss c.args.i c.index-self-i.result).item in
     let p : 0 < r.len = omega (arith, items_read (λ r. r.len) ss c.args.i c.index-self-i.result (omega arith)) in
     record {
-      sizes = (omega arith, (omega arith, omega arith));
+      sizes = (omega arith, omega arith);
       linked = c.requires.linked.0;
       coded = items_read (code 0 (length ss)) ss c.args.i c.index-self-i.result (omega arith) ∙ code_key (length ss) r p ∙ sym (c.key_chain-by_key.ensures.is ∙ ap (λ (z : ℕ). key_code (length ss) r.partition (take z r.name)) (sub-zero r.len));
     }
@@ -24,7 +24,7 @@ unlink-requires-2 c =
     let r = (get_or ss c.args.i c.index-self-i.result).item in
     let p : 0 < r.len = omega (arith, items_read (λ r. r.len) ss c.args.i c.index-self-i.result (omega arith)) in
     record {
-      sizes = (omega arith, (omega arith, omega arith));
+      sizes = (omega arith, omega arith);
       linked = linked_framed 0 1 ss s₁ (λ z. absurd (omega arith)) f c.requires.linked.1;
       coded = ap (λ (z : ℕ). codes 1 z (items s₁) c.args.i) l ∙ ap (λ rs. codes 1 (length ss) rs c.args.i) f.items ∙ items_read (code 1 (length ss)) ss c.args.i c.index-self-i.result (omega arith) ∙ code_rank (length ss) r p ∙ sym c.rank_chain-by_rank.ensures.is;
     }
@@ -36,7 +36,7 @@ returns c =
     let s₂ = c.unlink-2.new.slots in
     let l = framed_length 0 ss s₁ c.unlink.ensures.framed in
     record {
-      linked = vacated_linked ss s₁ s₂ c.args.i (length ss) (length s₁) (omega arith) c.unlink.ensures.framed c.unlink-2.ensures.framed c.unlink.ensures.chained c.unlink-2.ensures.chained c.index-self-i-2.result _ refl refl refl l refl;
-      now = (_, refl, written_items ss s₁ s₂ c.args.i (length ss) (length s₁) (omega arith) c.unlink.ensures.framed c.unlink-2.ensures.framed c.unlink.ensures.chained c.unlink-2.ensures.chained c.index-self-i-2.result _ refl refl);
+      linked = vacated_linked ss s₁ s₂ c.args.i (length ss) (length s₁) (omega arith) c.unlink.ensures.framed c.unlink-2.ensures.framed c.unlink.ensures.chained c.unlink-2.ensures.chained c.index-self-i-2.result _ refl refl l refl;
+      now = (_, refl, written_items ss s₁ s₂ c.args.i (length ss) (length s₁) (omega arith) c.unlink.ensures.framed c.unlink-2.ensures.framed c.unlink.ensures.chained c.unlink-2.ensures.chained c.index-self-i-2.result _ refl);
       spares = refl;
     }
