@@ -1,18 +1,21 @@
 -- A slot leaves its chain, and comes into another.
-use Rattle.std.proofs.Common.{◌≡◌, ℕ, zero, suc, ◌+◌, ◌-◌, ◌<◌, ◌≤◌, Bool, true, false, cond, eqb, List, [], ◌∷◌, map, length, get_or, take, set, sym, refl, ap, ◌∙◌, subst, ⊎_elim, le_of_suc-le-suc, not-suc-le-zero, arith}
+use Rattle.std.proofs.Common.{◌≡◌, ℕ, zero, suc, ◌+◌, ◌-◌, ◌<◌, ◌≤◌, eqb, List, [], ◌∷◌, map, length, get_or, take, set, sym, refl, ap, ◌∙◌, subst, ⊎_elim, le_of_suc-le-suc, not-suc-le-zero, arith}
 use mathlib.Core.Path.{fun_ext}
-use Rattle.std.proofs.lemmas.Bool.{cases_eq, cases_lt, cond-true, cond-false, eq-eqb, ne_eqb, eqb-true, eqb-false}
+use Rattle.std.proofs.lemmas.Bool.{cases_eq, cases_lt, cond-true, cond-false, eq-eqb, ne_eqb}
 use Rattle.std.proofs.lemmas.List.{length-map, length-set, map-set, get_or-set_same, get_or-set_other}
 use Rattle.slots.specs.declared.slot.Item.{Item}
 use Rattle.slots.specs.declared.links.Links.{Links}
 use Rattle.slots.specs.declared.slot.Slot.{Slot}
-use Rattle.slots.specs.Chains.{Top, Heads, Nexts, Point, Pointed, except, top}
-use Rattle.slots.specs.Columns.{HeadsAre, NextsAre, Framed, Linked, Chained, BothLinked, lengths, heads, nexts, items, code, codes, head_column, next_column, head_in, next_in, key_code, rank_code}
+use Rattle.slots.specs.Chains.{Top, Heads, Nexts, Point, Pointed, except}
+use Rattle.slots.specs.Columns.{Framed, Linked, Chained, BothLinked, lengths, heads, nexts, items, code, codes, head_column, next_column, head_in, next_in, key_code, rank_code}
 use Rattle.slots.proofs.ColumnFacts.{column_kept}
 use Rattle.slots.proofs.ChainFacts.{except_here, except_other, unlinked_heads, unlinked_nexts, linked_heads, linked_nexts}
 
 pub framed_length : (k : ℕ) (ss ss' : List Slot) → Framed k ss ss' → length ss' ≡ length ss
 framed_length k ss ss' f = sym (length-map ss' (λ s. s.item)) ∙ ap length f.items ∙ length-map ss (λ s. s.item)
+
+pub lengths_framed : (k : ℕ) (ss ss' : List Slot) → Framed k ss ss' → (j : ℕ) → lengths ss' j ≡ lengths ss j
+lengths_framed k ss ss' f j = ap (λ (rs : List Item). get_or (map (λ r. r.len) rs) j 0) f.items
 
 -- both say where the last place of b below m is
 top_le : (c : ℕ → ℕ) (m b v w : ℕ) → Top c m b v → Top c m b w → w ≤ v
@@ -143,34 +146,6 @@ module _ (ss ss₁ ss₂ : List Slot) (i x₀ x₁ : ℕ) (h : i < length ss) (f
 
   pub vacated_linked : x₀ ≡ length ss → x₁ ≡ length ss → s.item.len ≡ 0 → BothLinked (set ss₂ i s)
   vacated_linked a b e = written_linked (code_vacant 0 (length ss) s.item e ∙ sym a) (code_vacant 1 (length ss) s.item e ∙ sym b)
-
-pub top_is : (c : ℕ → ℕ) (m b : ℕ) → Top c m b (top c m b)
-top_is c zero b = (omega arith, (λ j p q e. absurd (omega arith)), λ p. absurd (omega arith))
-top_is c (suc m) b = by (eqb (c m) b) refl (top_is c m b)
-  where
-    by : (t : Bool) → eqb (c m) b ≡ t → Top c m b (top c m b) → Top c (suc m) b (cond t (suc m) (top c m b))
-    by true q s = (omega arith, (λ j p z e. absurd (omega arith)), λ p. (let y : suc m - 1 ≡ m = omega arith in ap c y ∙ eqb-true (c m) b q))
-    by false q s = (
-      omega (arith, s.0),
-      (λ j p z e. ⊎_elim {C = ⊥} (λ y. eqb-false (c m) b q (ap c (sym y) ∙ e)) (λ y. s.1 j p (omega arith) e) (cases_eq j m)),
-      s.2,
-    )
-
-pub top_same : (c : ℕ → ℕ) (m b v : ℕ) → Top c m b v → v ≡ top c m b
-top_same c m b v t = omega (arith, top_le c m b v (top c m b) t (top_is c m b), top_le c m b (top c m b) v (top_is c m b) t)
-
-pub linked_from : (k : ℕ) (ss : List Slot) → HeadsAre k ss → NextsAre k ss → Linked k ss
-linked_from k ss h n =
-    let c = codes k (length ss) (items ss) in (
-      λ b l. subst (λ (v : ℕ). Top c (length ss) b v) (sym (h b l)) (top_is c (length ss) b),
-      λ j l z. subst (λ (v : ℕ). Top c j (c j) v) (sym (n j l z)) (top_is c j (c j)),
-    )
-
-pub heads_are : (k : ℕ) (ss : List Slot) → Linked k ss → HeadsAre k ss
-heads_are k ss l b h = top_same (codes k (length ss) (items ss)) (length ss) b _ (l.0 b h)
-
-pub nexts_are : (k : ℕ) (ss : List Slot) → Linked k ss → NextsAre k ss
-nexts_are k ss l j h z = top_same (codes k (length ss) (items ss)) j (codes k (length ss) (items ss) j) _ (l.1 j h z)
 
 -- the lengths of the names, after a write to item i
 pub lengths_here : (ss ss' : List Slot) (i : ℕ) (r : Item) → i < length ss → items ss' ≡ set (items ss) i r → lengths ss' i ≡ r.len

@@ -11,12 +11,12 @@ use Rattle.slots.specs.declared.slot.Item.{Item}
 use Rattle.slots.specs.declared.slot.Slot.{Slot}
 use Rattle.slots.specs.declared.table.Lent.{Lent}
 use Rattle.slots.specs.declared.table.SlotTable.{SlotTable}
-use Rattle.slots.specs.Columns.{items, partitions, ranks, BothLinked, lengths}
+use Rattle.slots.specs.Columns.{items, partitions, ranks, lengths}
 use Rattle.slots.specs.Table.{entry_in, entries_in, Counts}
 use Rattle.slots.specs.Held.{held}
 use Rattle.slots.specs.Lawful.{length_use, rank_counted}
 use Rattle.slots.specs.Lookup.{HasKeyAt, HasRankAt, LacksRank, TakesOver}
-use Rattle.slots.proofs.LinkFacts.{items_read, heads_are, nexts_are, items_length, lengths_other, lengths_here}
+use Rattle.slots.proofs.LinkFacts.{items_read, items_length, lengths_other, lengths_here}
 use Rattle.slots.proofs.HeldFacts.{blank, held_at}
 use Rattle.slots.proofs.CountFacts.{count_perm, counts_add, counts_some}
 use Rattle.slots.proofs.StateFacts.{filled, entries_set, present, low_part, key_here, out, out_part, out_counts, closed_sound, closed_perm, moved_sound, moved_perm}
@@ -67,21 +67,17 @@ module _ (t : SlotTable) (i p : ℕ) (n : List ℕ) (k : HasKeyAt t p n i) (d : 
         (λ z. omega (arith, lengths_other t.lent.slots.now lent₁.slots.now j x now₁ k z, filled t k d m))
         (cases_eq k j)
 
-    module _ (lent : Lent) (K : BothLinked lent.slots.now) where
+    module _ (lent : Lent) where
       module _ (size : length lent.slots.now ≡ length lent₁.slots.now) (vacant : lengths lent.slots.now (t.used - 1) ≡ 0) (others : (k : ℕ) → t.used - 1 < k → lengths lent.slots.now k ≡ lengths lent₁.slots.now k)
           (now : take (t.used - 1) (items lent.slots.now) ≡ take (t.used - 1) (set (items lent₁.slots.now) i (get_or (items lent₁.slots.now) (t.used - 1) d.item))) where
         abbrev pub take_made : SlotTable
         take_made = record {
           lent = lent;
+          beyond = t.beyond;
           used = t.used - 1;
           counts = set t.counts p (get_or t.counts p 0 - 1);
           within = omega (arith, size, size₁, t.within);
-          few = omega (arith, size, size₁, t.few);
           lawful = closed_sound t i p n e h d (items lent₁.slots.now) same (items lent.slots.now) now;
-          keyheads = heads_are 0 lent.slots.now K.0;
-          keynexts = nexts_are 0 lent.slots.now K.0;
-          rankheads = heads_are 1 lent.slots.now K.1;
-          ranknexts = nexts_are 1 lent.slots.now K.1;
           free = λ k l m. after (lengths lent.slots.now) (lengths lent₁.slots.now) (t.used - 1) k l vacant others (λ z. free₁ k (omega arith) (omega (arith, size, size₁)));
           wide = length-set _ _ _ ∙ t.wide;
           ranks = closed_ranked t i j p (ranks t.lent.slots.now i) d x (items lent₁.slots.now) h v.used part_here refl pj rj (v.same ∙ part_here) v.rank now₁ (items lent.slots.now) (low_part t i p n e h) some_count now;
@@ -99,15 +95,11 @@ module _ (t : SlotTable) (i p : ℕ) (n : List ℕ) (k : HasKeyAt t p n i) (d : 
         abbrev pub move_made : SlotTable
         move_made = record {
           lent = lent;
+          beyond = t.beyond;
           used = t.used;
           counts = set (set t.counts p (get_or t.counts p 0 - 1)) q (get_or (set t.counts p (get_or t.counts p 0 - 1)) q 0 + 1);
           within = omega (arith, size₂, t.within);
-          few = omega (arith, size₂, t.few);
           lawful = moved_sound t i p n e h d (items lent₁.slots.now) same q z is (items lent.slots.now) now lq new;
-          keyheads = heads_are 0 lent.slots.now K.0;
-          keynexts = nexts_are 0 lent.slots.now K.0;
-          rankheads = heads_are 1 lent.slots.now K.1;
-          ranknexts = nexts_are 1 lent.slots.now K.1;
           free = λ y l m. lengths_other lent₁.slots.now lent.slots.now i z now y (λ w. absurd (omega arith)) ∙ free₁ y l (omega (arith, size₂));
           wide = length-set _ _ _ ∙ length-set _ _ _ ∙ t.wide;
           ranks = moved_ranked t i j p (ranks t.lent.slots.now i) d x (items lent₁.slots.now) h v.used part_here refl pj rj (v.same ∙ part_here) v.rank now₁ (items lent.slots.now) q z (low_part t i p n e h) (omega arith) some_count apart_parts zp zr now;

@@ -12,13 +12,13 @@ use Rattle.slots.specs.declared.slot.Item.{Item}
 use Rattle.slots.specs.declared.slot.Slot.{Slot}
 use Rattle.slots.specs.declared.table.Lent.{Lent}
 use Rattle.slots.specs.declared.table.SlotTable.{SlotTable}
-use Rattle.slots.specs.Columns.{items, partitions, ranks, BothLinked}
+use Rattle.slots.specs.Columns.{items, partitions, ranks}
 use Rattle.slots.specs.Ranks.{in_rank, Ranked, by_rank}
 use Rattle.slots.specs.Table.{entry_in, entries_in}
 use Rattle.slots.specs.Held.{held, in_use, entries_by_rank}
 use Rattle.slots.specs.Lawful.{length_use, counts_le}
 use Rattle.slots.specs.Lookup.{LacksRank}
-use Rattle.slots.proofs.LinkFacts.{length_items, heads_are, nexts_are, items_length, lengths_other}
+use Rattle.slots.proofs.LinkFacts.{length_items, items_length, lengths_other}
 use Rattle.slots.proofs.CountFacts.{counts_add}
 use Rattle.slots.proofs.NthFacts.{nth_ranked}
 use Rattle.slots.proofs.StateFacts.{entries_push, key_low, take_set_in}
@@ -73,7 +73,7 @@ pub in_rank_is : (q r : ℕ) (x : Item) (p k : ℕ) → x.partition ≡ p → x.
 in_rank_is q r x p k e f = ap (λ (z : ℕ). cond (eqb q z && eqb r x.rank) 1 0) e ∙ ap (λ (z : ℕ). cond (eqb q p && eqb r z) 1 0) f
 
 -- after a put
-module _ (t : SlotTable) (lent : Lent) (item : Item) (x : Entry) (K : BothLinked lent.slots.now) (now : items lent.slots.now ≡ set (items t.lent.slots.now) t.used item)
+module _ (t : SlotTable) (lent : Lent) (item : Item) (x : Entry) (now : items lent.slots.now ≡ set (items t.lent.slots.now) t.used item)
     (room : t.used < length t.lent.slots.now) (is : entry_in item ≡ x) (k : is_key class x.partition x.name ≡ true) (new : holds (held t) x.partition x.name ≡ false) (rank : item.rank ≡ get_or t.counts x.partition 0) where
   pub added : entries_in (t.used + 1) (items lent.slots.now) ≡ held t ++ x ∷ []
   added =
@@ -98,15 +98,11 @@ module _ (t : SlotTable) (lent : Lent) (item : Item) (x : Entry) (K : BothLinked
   abbrev pub put_made : SlotTable
   put_made = record {
     lent = lent;
+    beyond = t.beyond;
     used = t.used + 1;
     counts = set t.counts x.partition (get_or t.counts x.partition 0 + 1);
     within = omega (arith, size);
-    few = omega (arith, size, t.few);
     lawful = ap (sound class) added ∙ sound_push class x (held t) k new t.lawful;
-    keyheads = heads_are 0 lent.slots.now K.0;
-    keynexts = nexts_are 0 lent.slots.now K.0;
-    rankheads = heads_are 1 lent.slots.now K.1;
-    ranknexts = nexts_are 1 lent.slots.now K.1;
     free = λ j z y. lengths_other t.lent.slots.now lent.slots.now t.used item now j (λ e. absurd (omega arith)) ∙ t.free j (omega arith) (omega (arith, size));
     wide = length-set _ _ _ ∙ t.wide;
     ranks = ranked;

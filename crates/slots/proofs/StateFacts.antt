@@ -1,5 +1,5 @@
 -- A table before and after a change.
-use Rattle.std.proofs.Common.{◌≡◌, ℕ, zero, suc, ◌+◌, ◌-◌, ◌<◌, ◌≤◌, true, false, eqb, leb, List, [], ◌∷◌, ◌++◌, map, length, get_or, take, set, Some, None, Option, sym, refl, ap, ◌∙◌, subst, arith}
+use Rattle.std.proofs.Common.{◌≡◌, ℕ, zero, suc, ◌+◌, ◌-◌, ◌<◌, ◌≤◌, true, false, eqb, leb, List, [], ◌∷◌, ◌++◌, map, length, get_or, take, set, replicate, Some, None, Option, sym, refl, ap, ◌∙◌, subst, arith}
 use Rattle.std.specs.List.{remove}
 use Rattle.std.proofs.lemmas.Bool.{and_parts, leb-true, cond-false, ne_eqb}
 use Rattle.std.proofs.lemmas.List.{take_more_set, map_push, map-set, take-map, take-take, get_or-map, get_or-take, length-map}
@@ -13,10 +13,10 @@ use Rattle.slots.specs.declared.slot.Item.{Item}
 use Rattle.slots.specs.declared.slot.Slot.{Slot}
 use Rattle.slots.specs.declared.table.SlotTable.{SlotTable}
 use Rattle.slots.specs.Chains.{Top}
-use Rattle.slots.specs.Columns.{items, lengths, BothLinked, Linked, codes, heads}
-use Rattle.slots.specs.Table.{entry_in, entries_in, Counts}
+use Rattle.slots.specs.Columns.{items, lengths, BothLinked, Linked, codes, heads, head_in}
+use Rattle.slots.specs.Table.{entry_in, entries_in, Counts, Free}
 use Rattle.slots.specs.Held.{held, entries_by_rank, found_at, number_of}
-use Rattle.slots.proofs.LinkFacts.{items_read, linked_from, length_items, code_free}
+use Rattle.slots.proofs.LinkFacts.{items_read, length_items, code_free}
 use Rattle.slots.specs.Lawful.{length_held, by_rank_perm}
 use Rattle.slots.proofs.HeldFacts.{blank, no_slot, held_at, nth_held, long}
 use Rattle.slots.proofs.CountFacts.{counts_drop}
@@ -40,9 +40,6 @@ pub key_low : (p : ℕ) (n : List ℕ) → is_key class p n ≡ true → p ≤ 5
 key_low p n k = leb-true p 511 (and_parts (leb p 511) (is_short class n) k).0
 
 module _ (t : SlotTable) where
-  pub linked_of : BothLinked t.lent.slots.now
-  linked_of = (linked_from 0 t.lent.slots.now t.keyheads t.keynexts, linked_from 1 t.lent.slots.now t.rankheads t.ranknexts)
-
   pub filled : (j : ℕ) (d : Slot) → j < t.used → 0 < lengths t.lent.slots.now j
   filled j d h =
       let r = (get_or t.lent.slots.now j d).item in
@@ -156,3 +153,24 @@ empty_linked k ss f g =
       λ b l. subst (λ (v : ℕ). Top c n b v) (sym (g b l)) (omega arith, (λ j z y e. absurd (omega (arith, free j y))), λ z. absurd (omega arith)),
       λ j l z. absurd (omega (arith, free j l)),
     )
+
+-- slots that are all s, which is vacant and has no heads
+module _ (s : Slot) (vacant : s.item.len ≡ 0) (h₀ : head_in 0 s ≡ 0) (h₁ : head_in 1 s ≡ 0) where
+  lengths_all : (n j : ℕ) → lengths (replicate n s) j ≡ 0
+  lengths_all zero j = refl
+  lengths_all (suc n) zero = vacant
+  lengths_all (suc n) (suc j) = lengths_all n j
+
+  heads_all : (k n j : ℕ) → head_in k s ≡ 0 → heads k (replicate n s) j ≡ 0
+  heads_all k zero j e = refl
+  heads_all k (suc n) zero e = e
+  heads_all k (suc n) (suc j) e = heads_all k n j e
+
+  pub all_free : (n : ℕ) (ss : List Slot) → ss ≡ replicate n s → Free 0 ss
+  all_free n ss e j _ _ = ap (λ (l : List Slot). lengths l j) e ∙ lengths_all n j
+
+  pub all_linked : (n : ℕ) (ss : List Slot) → ss ≡ replicate n s → BothLinked ss
+  all_linked n ss e = (
+    empty_linked 0 ss (λ j l. all_free n ss e j (omega arith) l) (λ j _. ap (λ (l : List Slot). heads 0 l j) e ∙ heads_all 0 n j h₀),
+    empty_linked 1 ss (λ j l. all_free n ss e j (omega arith) l) (λ j _. ap (λ (l : List Slot). heads 1 l j) e ∙ heads_all 1 n j h₁),
+  )

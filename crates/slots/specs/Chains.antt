@@ -32,11 +32,6 @@ pub record Pointed (u b m w : ℕ) (heads nexts heads' nexts' : ℕ → ℕ) : T
   pub next_set : m < u → nexts' m ≡ w
   pub next_kept : (j : ℕ) → (m < u → j ≢ m) → nexts' j ≡ nexts j
 
--- one more than the last place below m whose code is b, or 0
-abbrev pub top : (ℕ → ℕ) → ℕ → ℕ → ℕ
-top c zero b = 0
-top c (suc m) b = cond (c m == b) (suc m) (top c m b)
-
 -- the places below m whose code is b, from the last one on
 abbrev pub members : (ℕ → ℕ) → ℕ → ℕ → List ℕ
 members c zero b = []

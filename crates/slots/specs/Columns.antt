@@ -1,9 +1,9 @@
 -- The columns of the slots: their items, and for each of two families of chains the heads, the nexts and the codes, which say
 -- in which chain each slot is.
-use Rattle.std.specs.Prelude.{◌≡◌, ℕ, ◌+◌, ◌*◌, ◌%◌, ◌<◌, cond, List, map, length, take, fold, ◌==◌, ◌≢◌, slice_index}
+use Rattle.std.specs.Prelude.{◌≡◌, ℕ, ◌+◌, ◌*◌, ◌%◌, cond, List, map, length, take, fold, ◌==◌, ◌≢◌, slice_index}
 use Rattle.slots.specs.declared.slot.Item.{Item}
 use Rattle.slots.specs.declared.slot.Slot.{Slot}
-use Rattle.slots.specs.Chains.{Heads, Nexts, top}
+use Rattle.slots.specs.Chains.{Heads, Nexts}
 
 -- what the chains multiply by: a prime near 2 ^ 32 divided by the golden ratio
 abbrev pub spread : ℕ
@@ -79,14 +79,6 @@ lengths ss j = slice_index (map (λ r. r.len) (items ss)) j
 -- in both families
 abbrev pub BothLinked : List Slot → Type 0
 BothLinked ss = Linked 0 ss × Linked 1 ss
-
--- the heads of family k, by computation
-abbrev pub HeadsAre : ℕ → List Slot → Type 0
-HeadsAre k ss = (b : ℕ) → b < length ss → heads k ss b ≡ top (codes k (length ss) (items ss)) (length ss) b
-
--- its nexts, by computation
-abbrev pub NextsAre : ℕ → List Slot → Type 0
-NextsAre k ss = (j : ℕ) → j < length ss → codes k (length ss) (items ss) j < length ss → nexts k ss j ≡ top (codes k (length ss) (items ss)) j (codes k (length ss) (items ss) j)
 
 -- the partition in each slot
 abbrev pub partitions : List Slot → ℕ → ℕ

@@ -40,4 +40,4 @@ found_at t i = number_of (slice_get (held t) i)
 
 -- the caller's slots that the table does not lie in
 abbrev pub beyond : SlotTable → List Slot
-beyond t = t.lent.beyond.now
+beyond t = t.beyond.now

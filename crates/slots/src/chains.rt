@@ -1,6 +1,6 @@
 ghost use Rattle.std.specs.Prelude.{◌≡◌, ℕ, ◌-◌, ◌<◌, ◌≤◌, length};
 ghost use Rattle.slots.specs.Chains.{Point, Pointed, except};
-ghost use Rattle.slots.specs.Columns.{Linked, Chained, Framed, codes, items, heads, nexts};
+ghost use Rattle.slots.specs.Columns.{Linked, Chained, Framed, code, codes, items, heads, lengths, nexts};
 ghost use Rattle.slots.specs.Links.{family_number};
 ghost use Rattle.slots.specs.Pointers.{place_of, chain_of, stands_in};
 
@@ -108,27 +108,30 @@ fn seek(slots: &[Slot], family: Family, b: usize, i: usize) -> Pointer
         .map_or(Pointer::Head(b), Pointer::Next)
 }
 
-/// Takes slot i out of its chain b.
-pub(crate) fn unlink(slots: &mut [Slot], family: Family, b: usize, i: usize)
-    requires sizes { (b < length slots.old) × (i < length slots.old) }
+/// Takes slot i out of its chain.
+pub(crate) fn unlink(slots: &mut [Slot], family: Family, i: usize)
+    requires place { i < length slots.old }
     requires linked { Linked (family_number family) slots.old }
-    requires coded { codes (family_number family) (length slots.old) (items slots.old) i ≡ b }
+    requires filled { 0 < lengths slots.old i }
     ensures chained { Chained (family_number family) (except i (length slots.old) (codes (family_number family) (length slots.old) (items slots.old))) slots.new }
     ensures framed { Framed (family_number family) slots.old slots.new }
 {
+    let item = slots[i].item;
+    let b = item.chain(family, slots.len());
     let pointer = seek(slots, family, b, i);
     let after = Pointer::Next(i).link(slots, family);
     pointer.set(slots, family, after);
 }
 
-/// Puts slot i, which is in no chain, into chain b.
-pub(crate) fn link(slots: &mut [Slot], family: Family, b: usize, i: usize)
-    requires sizes { (b < length slots.old) × ((i < length slots.old) × (length slots.old ≤ 1048576)) }
+/// Puts slot i, which is in no chain, into the chain that an item is in.
+pub(crate) fn link(slots: &mut [Slot], family: Family, i: usize, item: &Item)
+    requires place { (i < length slots.old) × ((length slots.old ≤ 1048576) × (0 < item.now.len)) }
     requires linked { Linked (family_number family) slots.old }
-    requires free { length slots.old ≤ codes (family_number family) (length slots.old) (items slots.old) i }
-    ensures chained { Chained (family_number family) (except i b (codes (family_number family) (length slots.old) (items slots.old))) slots.new }
+    requires vacant { lengths slots.old i ≡ 0 }
+    ensures chained { Chained (family_number family) (except i (code (family_number family) (length slots.old) item.now) (codes (family_number family) (length slots.old) (items slots.old))) slots.new }
     ensures framed { Framed (family_number family) slots.old slots.new }
 {
+    let b = item.chain(family, slots.len());
     let pointer = seek(slots, family, b, i);
     let after = pointer.link(slots, family);
     Pointer::Next(i).set(slots, family, after);

@@ -30,7 +30,7 @@ impl Store for SlotTable<'_> {
 
     ghost lawful = { lawful };
 
-    ghost bounded = { λ s. s.few };
+    ghost bounded = { λ s. s.lent.few };
 
     ghost weighty = { weighty };
 
@@ -58,7 +58,7 @@ impl Store for SlotTable<'_> {
         }
         let rank = self.counts[partition as usize];
         let item = Item::holding(partition, name, number, rank);
-        self.lent.occupy(self.used, item);
+        self.lent.add(self.used, item);
         self.used += 1;
         self.counts[partition as usize] += 1;
         Ok(())

@@ -35,7 +35,7 @@ impl Item {
     fn has_key(&self, partition: u16, name: &[u8]) -> bool
         ensures { result ≡ has_key partition name.now (entry_in self.now) }
     {
-        self.partition == partition && &self.name[0..self.len as usize] == name
+        self.partition == partition && self.name() == name
     }
 
     /// Whether the item has this rank in the partition.
@@ -77,11 +77,11 @@ impl SlotTable<'_> {
         ensures writes { name.new ≡ padded (slice_get (held self.now) i) name.old }
     {
         let slots = &*self.lent.slots;
-        let slot = &slots[i];
-        *name = padded(&slot.item.name[0..slot.item.len as usize]);
+        let item = &slots[i].item;
+        *name = padded(item.name());
         ListedEntry {
-            len: slot.item.len,
-            number: slot.item.number,
+            len: item.len,
+            number: item.number,
         }
     }
 

@@ -1,8 +1,8 @@
-ghost use Rattle.std.specs.Prelude.{◌≡◌, [], length, drop, Some};
+ghost use Rattle.std.specs.Prelude.{◌≡◌, ◌≤◌, [], length, drop, Some};
 ghost use Rattle.slots.specs.Held.{beyond, entries_by_rank, room_of, room_for};
 ghost use Rattle.slots.specs.Making.{refusal_number, refusal_words, slots_answer, slots_refusal, slots_taken};
 ghost use Rattle.slots.specs.Ranks.{Ranked};
-ghost use Rattle.slots.specs.Table.{Counts};
+ghost use Rattle.slots.specs.Table.{Counts, Free};
 
 use crate::slot::Slot;
 use crate::table::{Lent, SlotTable};
@@ -52,14 +52,14 @@ pub(crate) fn no_counts() -> [u32; 512]
 }
 
 impl<'a> Lent<'a> {
-    /// Parts the slots into those that a table lies in and those beyond.
+    /// Vacates slots that a table may lie in.
     fn over(slots: &'a mut [Slot]) -> Lent<'a>
-        ensures size { length result.slots.now ≡ slots_taken (length slots.old) }
-        ensures beyond { result.beyond.now ≡ drop (slots_taken (length slots.old)) slots.old }
+        requires { length slots.old ≤ 1048576 }
+        ensures size { length result.slots.now ≡ length slots.old }
+        ensures free { Free 0 result.slots.now }
     {
-        let n = if slots.len() <= MOST { slots.len() } else { 0 };
-        let (slots, beyond) = slots.split_at_mut(n);
-        Lent { slots, beyond }
+        slots.fill(Slot::EMPTY);
+        Lent { slots }
     }
 }
 
@@ -81,10 +81,11 @@ impl<'a> SlotTable<'a> {
         ensures room { room_of result ≡ room_for (slots_taken (length slots.old)) }
         ensures spares { beyond result ≡ drop (slots_taken (length slots.old)) slots.old }
     {
-        let mut lent = Lent::over(slots);
-        lent.empty();
+        let n = if slots.len() <= MOST { slots.len() } else { 0 };
+        let (slots, beyond) = slots.split_at_mut(n);
         SlotTable {
-            lent,
+            lent: Lent::over(slots),
+            beyond,
             used: 0,
             counts: no_counts(),
         }

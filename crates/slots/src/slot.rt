@@ -1,4 +1,4 @@
-ghost use Rattle.std.specs.Prelude.{◌≡◌, ◌-◌, ◌≤◌, ◌++◌, length, replicate};
+ghost use Rattle.std.specs.Prelude.{◌≡◌, ◌-◌, ◌≤◌, ◌++◌, length, take, replicate};
 
 use crate::links::{Link, Links};
 
@@ -12,6 +12,16 @@ pub(crate) struct Item {
     pub(crate) number: u64,
     pub(crate) rank: u32,
     ghost short: { len ≤ 32 },
+}
+
+impl Item {
+    /// The name of the entry.
+    pub(crate) fn name(&self) -> &[u8]
+        ensures is { result.now ≡ take self.now.len self.now.name }
+        ensures long { length result.now ≡ self.now.len }
+    {
+        &self.name[..self.len as usize]
+    }
 }
 
 /// A place for an entry, in a slice that the caller lends to a `SlotTable`. It has the links of both families of chains.

@@ -10,7 +10,7 @@ use Rattle.slots.specs.Lawful.{used_held, length_held, by_rank_perm}
 use Rattle.slots.proofs.LinkFacts.{items_length}
 use Rattle.slots.proofs.ChainWalk.{lacks}
 use Rattle.slots.proofs.CountFacts.{count_le}
-use Rattle.slots.proofs.StateFacts.{missed, linked_of, key_low}
+use Rattle.slots.proofs.StateFacts.{missed, key_low}
 use Rattle.slots.proofs.RankState.{put_made, added_perm}
 use Rattle.slots.proofs.SlotTableStore.put.Goals as goal
 
@@ -20,36 +20,36 @@ returns-then-self c =
     let h = missed t t.used _ _ (lacks c.place.result c.place.ensures.miss (sym c.is_some.ensures ∙ c.if-is_some.false)).is (omega arith) in
     record { gives = sym (put_full class (room_of t) (held t) _ _ (sym c.if-not-is_key.ensures) h.has (omega (arith, used_held t))) ∙ put_answer_perm class (room_of t) c.args.partition c.args.name.now (by_rank_perm t); leaves = refl; keeps = refl; spares = refl }
 
-pub occupy-requires : goal.occupy-requires
-occupy-requires c =
+pub add-requires : goal.add-requires
+add-requires c =
     let t = c.args.self.now in
     let l = key_long class c.args.partition c.args.name.now (sym c.if-not-is_key.ensures) in
-    record { place = (c.if-self.false, (t.few, omega (arith, c.holding-item.ensures.long, l))); linked = linked_of t; vacant = t.free t.used (omega arith) c.if-self.false }
+    record { place = (c.if-self.false, omega (arith, c.holding-item.ensures.long, l)); vacant = t.free t.used (omega arith) c.if-self.false }
 
 pub overflow_add-self-2 : goal.overflow_add-self-2
 overflow_add-self-2 c =
     let t = c.args.self.now in
     let k = key_low c.args.partition c.args.name.now (sym c.if-not-is_key.ensures) in
-    omega (arith, t.counted c.args.partition (omega arith), count_le c.args.partition (held t), length_held t, t.within, t.few)
+    omega (arith, t.counted c.args.partition (omega arith), count_le c.args.partition (held t), length_held t, t.within, t.lent.few)
 
 pub invariant_of-self : goal.invariant_of-self
 invariant_of-self c =
     let t = c.args.self.now in
     let x = entry_of c.args.partition c.args.name.now c.args.number in
     let h = missed t t.used _ _ (lacks c.place.result c.place.ensures.miss (sym c.is_some.ensures ∙ c.if-is_some.false)).is (omega arith) in
-    let z = put_made t c.occupy.new.self c.holding-item.result x c.occupy.ensures.linked c.occupy.ensures.now c.if-self.false c.holding-item.ensures.holds (sym c.if-not-is_key.ensures) h.has c.holding-item.ensures.rank in
-    record { within = z.within; few = z.few; lawful = z.lawful; keyheads = z.keyheads; keynexts = z.keynexts; rankheads = z.rankheads; ranknexts = z.ranknexts; free = z.free; wide = z.wide; ranks = z.ranks; counted = z.counted }
+    let z = put_made t c.add.new.self c.holding-item.result x c.add.ensures.now c.if-self.false c.holding-item.ensures.holds (sym c.if-not-is_key.ensures) h.has c.holding-item.ensures.rank in
+    record { within = z.within; lawful = z.lawful; free = z.free; wide = z.wide; ranks = z.ranks; counted = z.counted }
 
 pub returns : goal.returns
 returns c =
     let t = c.args.self.now in
     let x = entry_of c.args.partition c.args.name.now c.args.number in
     let h = missed t t.used _ _ (lacks c.place.result c.place.ensures.miss (sym c.is_some.ensures ∙ c.if-is_some.false)).is (omega arith) in
-    let z = put_made t c.occupy.new.self c.holding-item.result x c.occupy.ensures.linked c.occupy.ensures.now c.if-self.false c.holding-item.ensures.holds (sym c.if-not-is_key.ensures) h.has c.holding-item.ensures.rank in
-    let p = added_perm t c.occupy.new.self c.holding-item.result x c.occupy.ensures.linked c.occupy.ensures.now c.if-self.false c.holding-item.ensures.holds (sym c.if-not-is_key.ensures) h.has c.holding-item.ensures.rank in
+    let z = put_made t c.add.new.self c.holding-item.result x c.add.ensures.now c.if-self.false c.holding-item.ensures.holds (sym c.if-not-is_key.ensures) h.has c.holding-item.ensures.rank in
+    let p = added_perm t c.add.new.self c.holding-item.result x c.add.ensures.now c.if-self.false c.holding-item.ensures.holds (sym c.if-not-is_key.ensures) h.has c.holding-item.ensures.rank in
     record {
       gives = sym (put_added class (room_of t) (held t) _ _ (sym c.if-not-is_key.ensures) h.has (omega (arith, used_held t, c.if-self.false))) ∙ put_answer_perm class (room_of t) c.args.partition c.args.name.now (by_rank_perm t);
       leaves = shuffled_from (then (keep x (perm_back (by_rank_perm t))) (then p (by_rank_perm z)));
-      keeps = ap room_for (items_length t.lent.slots.now c.occupy.new.self.slots.now t.used c.holding-item.result c.occupy.ensures.now);
-      spares = c.occupy.ensures.spares;
+      keeps = ap room_for (items_length t.lent.slots.now c.add.new.self.slots.now t.used c.holding-item.result c.add.ensures.now);
+      spares = refl;
     }

@@ -15,7 +15,7 @@ use Rattle.slots.proofs.ChainWalk.{lacks}
 use Rattle.slots.proofs.LinkFacts.{items_read, items_length}
 use Rattle.slots.proofs.HeldFacts.{blank}
 use Rattle.slots.proofs.CountFacts.{count_le, count_cons, count_perm}
-use Rattle.slots.proofs.StateFacts.{missed, present, linked_of, filled, low_part, out, out_counts, moved_leaves}
+use Rattle.slots.proofs.StateFacts.{missed, present, filled, low_part, out, out_counts, moved_leaves}
 use Rattle.slots.proofs.MadeFacts.{some_count, same, filled₁, move_made}
 use Rattle.slots.proofs.SlotTableStore.relocate.Goals as goal
 
@@ -36,7 +36,7 @@ pub rewrite-requires : goal.rewrite-requires
 rewrite-requires c =
     let t = c.args.self.now in
     let v = c.heir-j.ensures in
-    record { place = (omega (arith, v.used, t.within), (t.few, v.long)); linked = linked_of t; filled = filled t _ c.index-self-i.result v.used }
+    record { place = (omega (arith, v.used, t.within), v.long); filled = filled t _ c.index-self-i.result v.used }
 
 pub rewrite-requires-2 : goal.rewrite-requires-2
 rewrite-requires-2 c =
@@ -45,7 +45,7 @@ rewrite-requires-2 c =
     let d = c.index-self-i.result in
     let f = filled₁ t _ _ _ k d _ _ c.heir-j.ensures c.rewrite.new.self c.rewrite.ensures.now in
     let s = items_length t.lent.slots.now c.rewrite.new.self.slots.now c.heir-j.result.0 _ c.rewrite.ensures.now in
-    record { place = (omega (arith, k.used, t.within, s), (omega (arith, t.few, s), omega (arith, filled t _ d k.used, items_read (λ r. r.len) t.lent.slots.now c.in_ok-i.i d (omega (arith, k.used, t.within))))); linked = c.rewrite.ensures.linked; filled = f _ k.used }
+    record { place = (omega (arith, k.used, t.within, s), omega (arith, filled t _ d k.used, items_read (λ r. r.len) t.lent.slots.now c.in_ok-i.i d (omega (arith, k.used, t.within)))); filled = f _ k.used }
 
 pub bounds-self-from : goal.bounds-self-from
 bounds-self-from c = let k = rw c.in_ok-i.ensures.ok_part at c.place.ensures.hit in low_part c.args.self.now _ _ _ k.is k.used
@@ -64,15 +64,15 @@ overflow_add-self c =
     let d = c.index-self-i.result in
     let n = out_counts t i _ _ k.is k.used d c.args.to (omega (arith, c.if-to-gt-LAST_PARTITION.false)) in
     let x = get_or (held t) i blank in
-    omega (arith, n, count_le c.args.to (held t), count_perm c.args.to (out t i _ _ k.is k.used d), count_cons c.args.to x (remove (held t) i), length_held t, t.within, t.few)
+    omega (arith, n, count_le c.args.to (held t), count_perm c.args.to (out t i _ _ k.is k.used d), count_cons c.args.to x (remove (held t) i), length_held t, t.within, t.lent.few)
 
 pub invariant_of-self : goal.invariant_of-self
 invariant_of-self c =
     let t = c.args.self.now in
     let k = rw c.in_ok-i.ensures.ok_part at c.place.ensures.hit in
     let l = lacks c.place-2.result c.place-2.ensures.miss (sym c.is_some.ensures ∙ c.if-is_some.false) in
-    let z = move_made t _ _ _ k c.index-self-i.result _ _ c.heir-j.ensures c.rewrite.new.self c.rewrite.ensures.now c.rewrite-2.new.self c.rewrite-2.ensures.linked c.args.to _ refl refl refl c.if-to-gt-LAST_PARTITION.false (missed t t.used _ _ l.is (omega arith)).has c.rewrite-2.ensures.now in
-    record { within = z.within; few = z.few; lawful = z.lawful; keyheads = z.keyheads; keynexts = z.keynexts; rankheads = z.rankheads; ranknexts = z.ranknexts; free = z.free; wide = z.wide; ranks = z.ranks; counted = z.counted }
+    let z = move_made t _ _ _ k c.index-self-i.result _ _ c.heir-j.ensures c.rewrite.new.self c.rewrite.ensures.now c.rewrite-2.new.self c.args.to _ refl refl refl c.if-to-gt-LAST_PARTITION.false (missed t t.used _ _ l.is (omega arith)).has c.rewrite-2.ensures.now in
+    record { within = z.within; lawful = z.lawful; free = z.free; wide = z.wide; ranks = z.ranks; counted = z.counted }
 
 pub returns : goal.returns
 returns c =
@@ -81,7 +81,7 @@ returns c =
     let d = c.index-self-i.result in
     let l = lacks c.place-2.result c.place-2.ensures.miss (sym c.is_some.ensures ∙ c.if-is_some.false) in
     let f = (missed t t.used _ _ l.is (omega arith)).has in
-    let z = move_made t _ _ _ k d _ _ c.heir-j.ensures c.rewrite.new.self c.rewrite.ensures.now c.rewrite-2.new.self c.rewrite-2.ensures.linked c.args.to _ refl refl refl c.if-to-gt-LAST_PARTITION.false f c.rewrite-2.ensures.now in
+    let z = move_made t _ _ _ k d _ _ c.heir-j.ensures c.rewrite.new.self c.rewrite.ensures.now c.rewrite-2.new.self c.args.to _ refl refl refl c.if-to-gt-LAST_PARTITION.false f c.rewrite-2.ensures.now in
     let eq = same t _ _ _ k d _ _ c.heir-j.ensures c.rewrite.new.self c.rewrite.ensures.now in
     let x : Option ℕ → Entry = λ o. entry_of c.args.to c.args.name.now (number_in o) in
     let g = perm_found class c.args.from c.args.name.now (by_rank_perm t) t.lawful in
@@ -90,5 +90,5 @@ returns c =
       gives = sym (move_moved (held t) c.args.from c.args.to c.args.name.now (present t _ _ _ k.is k.used) c.if-to-gt-LAST_PARTITION.false f) ∙ move_answer_perm c.args.from c.args.to c.args.name.now (by_rank_perm t);
       leaves = shuffled_from (subst (λ (o : Option ℕ). Perm (x o ∷ without (entries_by_rank t) c.args.from c.args.name.now) (entries_by_rank z)) g p);
       keeps = ap room_for (items_length c.rewrite.new.self.slots.now c.rewrite-2.new.self.slots.now c.in_ok-i.i _ c.rewrite-2.ensures.now ∙ items_length t.lent.slots.now c.rewrite.new.self.slots.now c.heir-j.result.0 _ c.rewrite.ensures.now);
-      spares = c.rewrite-2.ensures.spares ∙ c.rewrite.ensures.spares;
+      spares = refl;
     }

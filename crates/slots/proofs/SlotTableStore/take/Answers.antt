@@ -1,4 +1,4 @@
-use Rattle.std.proofs.Common.{◌-◌, sym, ap, ◌∙◌, arith}
+use Rattle.std.proofs.Common.{◌-◌, refl, sym, ap, ◌∙◌, arith}
 use Rattle.names.specs.Names.{class}
 use Rattle.store.proofs.Shuffles.{shuffled_from, perm_back}
 use Rattle.store.proofs.Shuffles.Perm.{then}
@@ -7,7 +7,7 @@ use Rattle.slots.specs.Columns.{items}
 use Rattle.slots.specs.Held.{room_for}
 use Rattle.slots.specs.Lawful.{by_rank_perm, lawful}
 use Rattle.slots.proofs.LinkFacts.{items_length}
-use Rattle.slots.proofs.StateFacts.{linked_of, filled, low_part, gives_here, closed_leaves}
+use Rattle.slots.proofs.StateFacts.{filled, low_part, gives_here, closed_leaves}
 use Rattle.slots.proofs.MadeFacts.{some_count, same, filled₁, take_made}
 use Rattle.slots.proofs.SlotTableStore.take.Goals as goal
 
@@ -15,7 +15,7 @@ pub rewrite-requires : goal.rewrite-requires
 rewrite-requires c =
     let t = c.args.self.now in
     let v = c.heir-j.ensures in
-    record { place = (omega (arith, v.used, t.within), (t.few, v.long)); linked = linked_of t; filled = filled t _ c.index-self-i.result v.used }
+    record { place = (omega (arith, v.used, t.within), v.long); filled = filled t _ c.index-self-i.result v.used }
 
 pub remove-requires : goal.remove-requires
 remove-requires c =
@@ -24,8 +24,7 @@ remove-requires c =
     let f = filled₁ t _ _ _ k c.index-self-i.result _ _ c.heir-j.ensures c.rewrite.new.self c.rewrite.ensures.now in
     let s = items_length t.lent.slots.now c.rewrite.new.self.slots.now c.heir-j.result.0 _ c.rewrite.ensures.now in
     record {
-      place = (omega (arith, k.used), (omega (arith, k.used, t.within, s), omega (arith, t.few, s)));
-      linked = c.rewrite.ensures.linked;
+      place = (omega (arith, k.used), omega (arith, k.used, t.within, s));
       filled = (f _ k.used, f (t.used - 1) (omega (arith, k.used)));
     }
 
@@ -41,19 +40,19 @@ overflow_sub-self c = some_count c.args.self.now _ _ _ c.in_ok-i.ensures.hit c.i
 pub invariant_of-self : goal.invariant_of-self
 invariant_of-self c =
     let d = c.index-self-i.result in
-    let z = take_made c.args.self.now _ _ _ c.in_ok-i.ensures.hit d _ _ c.heir-j.ensures c.rewrite.new.self c.rewrite.ensures.now c.remove.new.self c.remove.ensures.linked c.remove.ensures.size c.remove.ensures.vacant c.remove.ensures.others (c.remove.ensures.now d.item) in
-    record { within = z.within; few = z.few; lawful = z.lawful; keyheads = z.keyheads; keynexts = z.keynexts; rankheads = z.rankheads; ranknexts = z.ranknexts; free = z.free; wide = z.wide; ranks = z.ranks; counted = z.counted }
+    let z = take_made c.args.self.now _ _ _ c.in_ok-i.ensures.hit d _ _ c.heir-j.ensures c.rewrite.new.self c.rewrite.ensures.now c.remove.new.self c.remove.ensures.size c.remove.ensures.vacant c.remove.ensures.others (c.remove.ensures.now d.item) in
+    record { within = z.within; lawful = z.lawful; free = z.free; wide = z.wide; ranks = z.ranks; counted = z.counted }
 
 pub returns : goal.returns
 returns c =
     let t = c.args.self.now in
     let k = c.in_ok-i.ensures.hit in
     let d = c.index-self-i.result in
-    let z = take_made t _ _ _ k d _ _ c.heir-j.ensures c.rewrite.new.self c.rewrite.ensures.now c.remove.new.self c.remove.ensures.linked c.remove.ensures.size c.remove.ensures.vacant c.remove.ensures.others (c.remove.ensures.now d.item) in
+    let z = take_made t _ _ _ k d _ _ c.heir-j.ensures c.rewrite.new.self c.rewrite.ensures.now c.remove.new.self c.remove.ensures.size c.remove.ensures.vacant c.remove.ensures.others (c.remove.ensures.now d.item) in
     let eq = same t _ _ _ k d _ _ c.heir-j.ensures c.rewrite.new.self c.rewrite.ensures.now in
     record {
       gives = sym (gives_here t _ _ _ k.is k.used d) ∙ perm_found class _ _ (by_rank_perm t) t.lawful;
       leaves = shuffled_from (then (perm_without class c.args.partition c.args.name.now (perm_back (by_rank_perm t)) (lawful t)) (then (closed_leaves t _ _ _ k.is k.used d (items c.rewrite.new.self.slots.now) eq (items c.remove.new.self.slots.now) (c.remove.ensures.now d.item)) (by_rank_perm z)));
       keeps = ap room_for (c.remove.ensures.size ∙ items_length t.lent.slots.now c.rewrite.new.self.slots.now c.heir-j.result.0 _ c.rewrite.ensures.now);
-      spares = c.remove.ensures.spares ∙ c.rewrite.ensures.spares;
+      spares = refl;
     }

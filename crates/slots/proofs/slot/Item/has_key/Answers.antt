@@ -1,4 +1,3 @@
-use Rattle.std.proofs.Common.{◌-◌, take, drop, arith}
 use Rattle.std.proofs.lemmas.Bool.Decides.{Decides-eqb}
 use Rattle.std.proofs.lemmas.Slice.Eq.{slice_eq-Decides}
 use Rattle.store.proofs.KeyFacts.{key_tested}
@@ -7,6 +6,4 @@ use Rattle.slots.proofs.slot.Item.has_key.Goals as goal
 
 pub returns-then-self-partition : goal.returns-then-self-partition
 returns-then-self-partition c =
-    let name = c.args.self.now.name in
-    let m = take (c.args.self.now.len - 0) (drop 0 name) in
-    key_tested _ c.args.name.now m (entry_in c.args.self.now) _ c.if-self-partition.true (grind arith) (slice_eq-Decides Decides-eqb _ _ _ c.eq.ensures)
+    key_tested _ c.args.name.now c.name.result.now (entry_in c.args.self.now) _ c.if-self-partition.true c.name.ensures.is (slice_eq-Decides Decides-eqb _ _ _ c.eq.ensures)

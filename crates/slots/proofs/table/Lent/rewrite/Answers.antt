@@ -9,14 +9,10 @@ pub occupy-requires : goal.occupy-requires
 occupy-requires c =
     let ss = c.args.self.now.slots.now in
     let v = c.vacate.ensures.now in
-    let l = items_length ss c.vacate.new.self.slots.now c.args.i v.0 v.2 in
-    record { place = (omega arith, (omega arith, omega arith)); linked = c.vacate.ensures.linked; vacant = lengths_here ss c.vacate.new.self.slots.now c.args.i v.0 (omega arith) v.2 ∙ v.1 }
+    let l = items_length ss c.vacate.new.slots c.args.i v.0 v.2 in
+    record { place = (omega (arith, l), (omega (arith, l, c.args.self.now.few), omega arith)); linked = c.vacate.ensures.linked; vacant = lengths_here ss c.vacate.new.slots c.args.i v.0 (omega arith) v.2 ∙ v.1 }
 
 pub returns : goal.returns
 returns c =
     let v = c.vacate.ensures.now in
-    record {
-      linked = c.occupy.ensures.linked;
-      now = c.occupy.ensures.now ∙ ap (λ (rs : List Item). set rs c.args.i c.args.item) v.2 ∙ set-set (items c.args.self.now.slots.now) c.args.i v.0 c.args.item;
-      spares = c.occupy.ensures.spares ∙ c.vacate.ensures.spares;
-    }
+    record { now = c.occupy.ensures.now ∙ ap (λ (rs : List Item). set rs c.args.i c.args.item) v.2 ∙ set-set (items c.args.self.now.slots.now) c.args.i v.0 c.args.item }

@@ -7,7 +7,6 @@ use Rattle.slots.specs.declared.slot.Item.{Item}
 use Rattle.slots.specs.Columns.{codes, items}
 use Rattle.slots.specs.Walk.{items_left}
 use Rattle.slots.proofs.ChainWalk.{chain_items, found_in, mapped, hits, misses}
-use Rattle.slots.proofs.StateFacts.{linked_of}
 use Rattle.slots.proofs.Walks.{rank_found, rank_lacks}
 use Rattle.slots.proofs.table.SlotTable.at_rank.Goals as goal
 
@@ -18,7 +17,7 @@ returns-then-is_empty c =
     record { hit = tt; miss = record { none = λ j h. absurd (omega (arith, z, t.within)) } }
 
 pub new-requires-clause-linked : goal.new-requires-clause-linked
-new-requires-clause-linked c = (linked_of c.args.self.now).1
+new-requires-clause-linked c = c.args.self.now.lent.linked.1
 
 pub returns : goal.returns
 returns c =

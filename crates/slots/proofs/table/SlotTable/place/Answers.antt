@@ -11,7 +11,7 @@ use Rattle.slots.specs.declared.slot.Item.{Item}
 use Rattle.slots.specs.Columns.{codes, items}
 use Rattle.slots.specs.Walk.{items_left}
 use Rattle.slots.proofs.ChainWalk.{chain_items, found_in, mapped, hits, misses}
-use Rattle.slots.proofs.StateFacts.{linked_of, none_found}
+use Rattle.slots.proofs.StateFacts.{none_found}
 use Rattle.slots.proofs.Walks.{key_found, key_lacks}
 use Rattle.slots.proofs.table.SlotTable.place.Goals as goal
 
@@ -23,7 +23,7 @@ returns-then-is_empty c =
     record { hit = tt; miss = record { is = e; gives = none_found t _ _ _ e (omega arith) } }
 
 pub new-requires-clause-linked : goal.new-requires-clause-linked
-new-requires-clause-linked c = (linked_of c.args.self.now).0
+new-requires-clause-linked c = c.args.self.now.lent.linked.0
 
 pub returns : goal.returns
 returns c =
