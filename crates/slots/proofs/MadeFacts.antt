@@ -108,9 +108,6 @@ module _ (t : SlotTable) (i p : ℕ) (n : List ℕ) (k : HasKeyAt t p n i) (d : 
 
 -- what takes over from slot i
 module _ (t : SlotTable) (i : ℕ) (h : i < t.used) (d : Slot) where
-  part : ℕ
-  part = (get_or t.lent.slots.now i d).item.partition
-
   pub heir_low : (get_or t.lent.slots.now i d).item.partition < 512
   heir_low = subst (λ (x : Item). x.partition < 512) (use_item t i d h) (Rattle.slots.specs.Lawful.part_low t i d.item (omega (arith, length_use t)))
 

@@ -3,6 +3,9 @@ use Rattle.std.proofs.Common.{◌≡◌, ℕ, zero, suc, ◌+◌, ◌<◌, ◌�
 use Rattle.std.specs.List.{slice_get}
 use Rattle.std.proofs.lemmas.Bool.{cond-true, cond-false, lt-ltb, le-ltb, cases_lt, cases_eq}
 use Rattle.std.proofs.lemmas.List.{length-append, nil_from_length}
+use Rattle.std.proofs.Math.ListN.{get_or-append}
+use Rattle.std.proofs.Math.Seq.{get_or-append_seam}
+use Rattle.std.proofs.lemmas.Option.{slice_get-get_or}
 use Rattle.std.proofs.lemmas.List.Elements.{filter-append}
 use Rattle.std.proofs.lemmas.List.Sums.{length-filter}
 use Rattle.slots.specs.declared.slot.Item.{Item}
@@ -46,15 +49,11 @@ single f rs j d h e c = only rs j h e (length-filter f rs ∙ c)
         by false q c s g = g c
 
 nth_at : {X : Type 0} (xs : List X) (x : X) (ys : List X) (k : ℕ) → length xs ≡ k → slice_get (xs ++ x ∷ ys) k ≡ Some x
-nth_at [] x ys zero e = refl
-nth_at [] x ys (suc k) e = absurd (omega arith)
-nth_at (y ∷ xs) x ys zero e = absurd (omega arith)
-nth_at (y ∷ xs) x ys (suc k) e = nth_at xs x ys k (omega arith)
+nth_at {X} xs x ys k e =
+    ap (slice_get (xs ++ x ∷ ys)) (sym e) ∙ slice_get-get_or (xs ++ x ∷ ys) (length xs) x (omega (arith, length-append xs (x ∷ ys))) ∙ ap (λ (y : X). Some y) (get_or-append_seam xs x ys x)
 
 nth_left : {X : Type 0} (xs ys : List X) (x : X) (k : ℕ) → k < length xs → slice_get (xs ++ ys) k ≡ slice_get xs k
-nth_left [] ys x k h = absurd (not-suc-le-zero h)
-nth_left (y ∷ xs) ys x zero h = refl
-nth_left (y ∷ xs) ys x (suc k) h = nth_left xs ys x k (le_of_suc-le-suc h)
+nth_left {X} xs ys x k h = slice_get-get_or (xs ++ ys) k x (omega (arith, length-append xs ys)) ∙ ap (λ (y : X). Some y) (get_or-append xs ys x k h) ∙ sym (slice_get-get_or xs k x h)
 
 module _ (counts : List ℕ) (rs : List Item) (ok : Ranked counts rs) (p : ℕ) (low : p < 512) where
   abbrev part : ℕ → List Item

@@ -1,9 +1,11 @@
 -- A table after a put, a take and a move.
-use Rattle.std.proofs.Common.{◌≡◌, ℕ, zero, suc, ◌+◌, ◌-◌, ◌<◌, ◌≤◌, Bool, true, false, cond, ◌&&◌, eqb, ltb, List, [], ◌∷◌, ◌++◌, map, length, get_or, take, set, Some, count_by, filter, sym, refl, ap, ◌∙◌, subst, ⊎_elim, arith, length-set}
+use Rattle.std.proofs.Common.{◌≡◌, ℕ, suc, ◌+◌, ◌-◌, ◌<◌, ◌≤◌, Bool, true, false, cond, ◌&&◌, eqb, ltb, List, [], ◌∷◌, ◌++◌, map, length, get_or, take, set, Some, count_by, filter, sym, refl, ap, ◌∙◌, subst, ⊎_elim, arith, length-set}
 use Rattle.std.specs.List.{remove, slice_get}
 use Rattle.std.proofs.lemmas.Bool.{cond-true, cond-false, eq-eqb, ne_eqb, eqb-true, lt-ltb, le-ltb, cases_eq, cases_order, and_from, and_parts}
 use Rattle.std.proofs.lemmas.List.{get_or-set_same, get_or-set_other, take_more_set, take-take, get_or-take, get_or-map}
 use Rattle.std.proofs.lemmas.List.Sums.{sum_by_push, sum_by-set, sum_by-cons, get_or-le-sum_by, length-filter}
+use Rattle.std.specs.Option.{option_map}
+use Rattle.std.proofs.lemmas.Option.{slice_get-map}
 use Rattle.names.specs.Names.{class}
 use Rattle.store.specs.Entries.{Entry, inside, sound, is_key, holds}
 use Rattle.store.proofs.Shuffles.{Perm, perm_push, perm_fold, perm_out, perm_fill}
@@ -181,11 +183,6 @@ inside_map p (y ∷ ys) = by (eqb p y.partition) (inside_map p ys)
     by true h = ap (λ (l : List Entry). entry_in y ∷ l) h
     by false h = h
 
-nth_map_some : (xs : List Item) (k : ℕ) (x : Item) → slice_get xs k ≡ Some x → slice_get (map entry_in xs) k ≡ Some (entry_in x)
-nth_map_some [] k x e = absurd (let z : ◌≡◌ {A = ℕ} 0 1 = cc in omega arith)
-nth_map_some (y ∷ xs) zero x e = let z : y ≡ x = cc in ap (λ (w : Item). Some (entry_in w)) z
-nth_map_some (y ∷ xs) (suc k) x e = nth_map_some xs k x e
-
 index_of : (f : Item → Bool) (rs : List Item) (d : Item) → 1 ≤ length (filter f rs) → (j : ℕ) × (j < length rs) × (f (get_or rs j d) ≡ true)
 index_of f [] d h = absurd (omega arith)
 index_of f (x ∷ rs) d h = by (f x) refl h (index_of f rs d)
@@ -201,7 +198,7 @@ module _ (t : SlotTable) (p k : ℕ) (low : p < 512) where
       let y = get_or (in_use t) j d.item in
       let m : in_rank p k y ≡ true = and_from _ _ (eq-eqb p y.partition (sym (use_read t (λ r. r.partition) j d h ∙ e))) (eq-eqb k y.rank (sym (use_read t (λ r. r.rank) j d h ∙ f))) in
       ap (λ (es : List Entry). slice_get es k) (inside_map p (by_rank t.used (in_use t)))
-      ∙ nth_map_some _ k y (nth_ranked t.counts (in_use t) t.ranks p low t.used k j d.item (omega (arith, counts_le t p low)) (omega (arith, length_use t)) m l)
+      ∙ slice_get-map entry_in _ k ∙ ap (option_map entry_in) (nth_ranked t.counts (in_use t) t.ranks p low t.used k j d.item (omega (arith, counts_le t p low)) (omega (arith, length_use t)) m l)
       ∙ ap (λ (x : Item). Some (entry_in x)) (use_item t j d h)
 
   -- each rank below the count is there

@@ -1,6 +1,6 @@
 -- What a walk of a chain looks for: the entry with a key, or the entry with a rank.
-use Rattle.std.proofs.Common.{◌≡◌, ℕ, ◌<◌, Bool, true, false, List, length, get_or, sym, refl, ap, ◌∙◌, ⊎_elim, arith}
-use Rattle.std.proofs.lemmas.Bool.{cases_lt, and_parts, and_from, eqb-true, eq-eqb, both_ways}
+use Rattle.std.proofs.Common.{◌≡◌, ℕ, ◌<◌, true, false, List, length, get_or, sym, ap, ◌∙◌, ⊎_elim, arith}
+use Rattle.std.proofs.lemmas.Bool.{false_from_ne_true, cases_lt, and_parts, and_from, eqb-true, eq-eqb, both_ways}
 use Rattle.std.proofs.lemmas.List.{get_or-map}
 use Rattle.names.specs.Names.{class}
 use Rattle.store.specs.Entries.{has_key, index}
@@ -19,11 +19,6 @@ use Rattle.slots.proofs.LinkFacts.{items_read, code_rank, code_free, length_item
 use Rattle.slots.proofs.HeldFacts.{blank, no_slot, held_at, key_coded}
 use Rattle.slots.proofs.StateFacts.{filled, found_here, holds_here, none_found}
 
--- a test that does not pass
-not_so : (s : Bool) → (s ≡ true → ⊥) → s ≡ false
-not_so true f = absurd (f refl)
-not_so false f = refl
-
 module _ (t : SlotTable) where
   -- a vacant slot is in no chain
   used_in : (k i : ℕ) → i < length t.lent.slots.now → codes k (length t.lent.slots.now) (items t.lent.slots.now) i < length t.lent.slots.now → i < t.used
@@ -31,9 +26,6 @@ module _ (t : SlotTable) where
       ⊎_elim {C = i < t.used} (λ z. z)
       (λ z. absurd (omega (arith, code_free k (length t.lent.slots.now) (items t.lent.slots.now) i (omega (arith, length_items t.lent.slots.now)) (t.free i z h))))
       (cases_lt i t.used)
-
-  item_of : ℕ → Item
-  item_of i = get_or (items t.lent.slots.now) i blank_item
 
   item_at : (i : ℕ) → i < length t.lent.slots.now → get_or (items t.lent.slots.now) i blank_item ≡ (get_or t.lent.slots.now i no_slot).item
   item_at i h = get_or-map (λ s. s.item) t.lent.slots.now i no_slot blank_item h
@@ -51,7 +43,7 @@ module _ (t : SlotTable) (p : ℕ) (n : List ℕ) (b : ℕ) (is : b ≡ key_code
 
   pub key_lacks : ((j : ℕ) → j < length t.lent.slots.now → codes 0 (length t.lent.slots.now) (items t.lent.slots.now) j ≡ b → has_key p n (entry_in (get_or (items t.lent.slots.now) j blank_item)) ≡ false) → LacksKey t p n
   key_lacks f =
-      let e : t.used ≡ index (held t) p n = sym (index_none (held t) p n blank (λ j h. not_so _ (λ k. both_ways _ (f j (omega (arith, length_held t, t.within)) (key_coded t p n j no_slot (omega (arith, length_held t)) k ∙ sym is)) (ap (has_key p n) (sym (keyed_at j (omega (arith, length_held t)))) ∙ k))) ∙ length_held t) in
+      let e : t.used ≡ index (held t) p n = sym (index_none (held t) p n blank (λ j h. false_from_ne_true _ (λ k. both_ways _ (f j (omega (arith, length_held t, t.within)) (key_coded t p n j no_slot (omega (arith, length_held t)) k ∙ sym is)) (ap (has_key p n) (sym (keyed_at j (omega (arith, length_held t)))) ∙ k))) ∙ length_held t) in
       record { is = e; gives = none_found t t.used p n e (omega arith) }
 
 module _ (t : SlotTable) (p r b : ℕ) (is : b ≡ rank_code (length t.lent.slots.now) p r) (below : b < length t.lent.slots.now) where

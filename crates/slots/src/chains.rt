@@ -81,6 +81,7 @@ impl Pointer {
         ensures framed { Framed (family_number family) slots.old slots.new }
     {
         match self {
+            // Kept: the check takes a write into an array field of a slot only through a variable that refers to the slot.
             Pointer::Head(b) => {
                 let slot = &mut slots[b];
                 slot.links[family.index()].head = link;
@@ -107,6 +108,8 @@ fn seek(slots: &[Slot], family: Family, b: usize, i: usize) -> Pointer
         .last()
         .map_or(Pointer::Head(b), Pointer::Next)
 }
+
+// Kept: while a slot leaves its chains or comes into others the links do not fit the items, so that a type cannot keep that they do.
 
 /// Takes slot i out of its chain.
 pub(crate) fn unlink(slots: &mut [Slot], family: Family, i: usize)

@@ -71,7 +71,7 @@ impl Store for SlotTable<'_> {
         ensures spares { beyond self.new ≡ beyond self.old }
     {
         let i = self.place(partition, name)?;
-        let number = self.lent.slots[i].item.number;
+        let number = self.number_at(i);
         let (j, heir) = self.heir(i);
         let last = self.used - 1;
         self.lent.rewrite(j, heir);

@@ -12,7 +12,7 @@ use crate::links::Family;
 use crate::places::{key_chain, rank_chain};
 use crate::slot::{Item, padded};
 use crate::table::SlotTable;
-use store::{LAST_PARTITION, ListedEntry};
+use store::ListedEntry;
 
 impl Item {
     /// An item with the entry.
@@ -89,11 +89,7 @@ impl SlotTable<'_> {
     pub(crate) fn count_in(&self, partition: u16) -> u32
         ensures { result ≡ length (inside (entries_by_rank self.now) partition) }
     {
-        if partition > LAST_PARTITION {
-            0
-        } else {
-            self.counts[partition as usize]
-        }
+        self.counts.get(partition as usize).copied().unwrap_or(0)
     }
 
     /// The slot of the entry with this rank in the partition.

@@ -4,6 +4,7 @@ use crate::links::{Link, Links};
 
 /// An entry in its slot: its partition, the first `len` bytes of `name`, its record number, and its rank among the entries of its
 /// partition. A slot whose item has `len` 0 is vacant.
+// Kept: a slot is memory of one size that the caller lends, so it has room for the longest name and says how much of it is in use.
 #[derive(Clone, Copy)]
 pub(crate) struct Item {
     pub(crate) partition: u16,
@@ -25,6 +26,7 @@ impl Item {
 }
 
 /// A place for an entry, in a slice that the caller lends to a `SlotTable`. It has the links of both families of chains.
+// Kept: the slots are a plain slice that the caller lends, in which an entry moves to another slot, so a link is a slot's number.
 #[derive(Clone, Copy)]
 pub struct Slot {
     pub(crate) item: Item,

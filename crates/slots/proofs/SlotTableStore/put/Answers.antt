@@ -20,12 +20,6 @@ returns-then-self c =
     let h = missed t t.used _ _ (lacks c.place.result c.place.ensures.miss (sym c.is_some.ensures ∙ c.if-is_some.false)).is (omega arith) in
     record { gives = sym (put_full class (room_of t) (held t) _ _ (sym c.if-not-is_key.ensures) h.has (omega (arith, used_held t))) ∙ put_answer_perm class (room_of t) c.args.partition c.args.name.now (by_rank_perm t); leaves = refl; keeps = refl; spares = refl }
 
-pub add-requires : goal.add-requires
-add-requires c =
-    let t = c.args.self.now in
-    let l = key_long class c.args.partition c.args.name.now (sym c.if-not-is_key.ensures) in
-    record { place = (c.if-self.false, omega (arith, c.holding-item.ensures.long, l)); vacant = t.free t.used (omega arith) c.if-self.false }
-
 pub overflow_add-self-2 : goal.overflow_add-self-2
 overflow_add-self-2 c =
     let t = c.args.self.now in

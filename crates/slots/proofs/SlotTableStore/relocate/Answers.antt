@@ -27,11 +27,6 @@ returns-in_err-i-clause-gives c =
     let m : c.from_residual.result ≡ Err Absent = search rules in
     m ∙ sym (move_absent (held t) c.args.from c.args.to c.args.name.now (missed t t.used _ _ l.is (omega arith)).has) ∙ move_answer_perm c.args.from c.args.to c.args.name.now (by_rank_perm t)
 
-pub returns-then-to-gt-LAST_PARTITION : goal.returns-then-to-gt-LAST_PARTITION
-returns-then-to-gt-LAST_PARTITION c =
-    let t = c.args.self.now in
-    record { gives = sym (move_high (held t) c.args.from c.args.to c.args.name.now c.if-to-gt-LAST_PARTITION.true) ∙ move_answer_perm c.args.from c.args.to c.args.name.now (by_rank_perm t); leaves = refl; keeps = refl; spares = refl }
-
 pub rewrite-requires : goal.rewrite-requires
 rewrite-requires c =
     let t = c.args.self.now in
