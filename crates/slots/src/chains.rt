@@ -109,6 +109,7 @@ fn seek(slots: &[Slot], family: Family, b: usize, i: usize) -> Pointer
         .map_or(Pointer::Head(b), Pointer::Next)
 }
 
+// Kept: a struct of the slots and the family would promise in each method that the family stays, and would be made anew for each call.
 // Kept: while a slot leaves its chains or comes into others the links do not fit the items, so that a type cannot keep that they do.
 
 /// Takes slot i out of its chain.

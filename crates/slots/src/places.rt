@@ -10,10 +10,7 @@ use crate::slot::{Item, Slot};
 use crate::table::Lent;
 
 /// What the chains multiply by: a prime near 2^32 divided by the golden ratio, so that neighbours lie far apart in a table of any size.
-const SPREAD: usize = 2_654_435_761;
-
-/// How many hashes of keys there are.
-const HASHES: usize = 4_294_967_296;
+const SPREAD: u32 = 2_654_435_761;
 
 /// The chain of a key, among n.
 pub(crate) fn key_chain(partition: u16, name: &[u8], n: usize) -> usize
@@ -21,8 +18,8 @@ pub(crate) fn key_chain(partition: u16, name: &[u8], n: usize) -> usize
     ensures is { result ≡ key_code n partition name.now }
     ensures below { result < n }
 {
-    let hash = name.iter().fold(u32::from(partition), |hash, byte| {
-        ((hash as usize * SPREAD + *byte as usize) % HASHES) as u32
+    let hash = name.iter().fold(u32::from(partition), |hash, &byte| {
+        hash.wrapping_mul(SPREAD).wrapping_add(u32::from(byte))
     });
     hash as usize % n
 }
@@ -33,7 +30,7 @@ pub(crate) fn rank_chain(partition: u16, rank: u32, n: usize) -> usize
     ensures is { result ≡ rank_code n partition rank }
     ensures below { result < n }
 {
-    (partition as usize * SPREAD + rank as usize) % n
+    (partition as usize * SPREAD as usize + rank as usize) % n
 }
 
 impl Item {

@@ -3,7 +3,6 @@ use Rattle.names.specs.Names.{class}
 use Rattle.store.specs.Entries.{entry_of}
 use Rattle.store.proofs.Shuffles.{shuffled_from, perm_back}
 use Rattle.store.proofs.Shuffles.Perm.{keep, then}
-use Rattle.store.proofs.SoundFacts.{key_long}
 use Rattle.store.proofs.AnswerFacts.{put_full, put_added, put_answer_perm}
 use Rattle.slots.specs.Held.{held, room_for, room_of}
 use Rattle.slots.specs.Lawful.{used_held, length_held, by_rank_perm}

@@ -7,7 +7,7 @@ use Rattle.store.specs.Calls.{number_in}
 use Rattle.store.proofs.Shuffles.{Perm, shuffled_from, perm_back}
 use Rattle.store.proofs.Shuffles.Perm.{keep, then}
 use Rattle.store.proofs.SoundFacts.{perm_found, perm_without}
-use Rattle.store.proofs.AnswerFacts.{move_absent, move_high, move_moved, move_answer_perm}
+use Rattle.store.proofs.AnswerFacts.{move_absent, move_moved, move_answer_perm}
 use Rattle.slots.specs.Columns.{items}
 use Rattle.slots.specs.Held.{held, entries_by_rank, room_for}
 use Rattle.slots.specs.Lawful.{length_held, by_rank_perm, lawful}

@@ -6,9 +6,6 @@ use Rattle.slots.specs.Pointers.{place_of}
 use Rattle.slots.proofs.LinkFacts.{code_free, length_items, link_chained, framed_then, framed_length}
 use Rattle.slots.proofs.chains.link.Goals as goal
 
-pub set-requires-2 : goal.set-requires-2
-set-requires-2 c = omega (arith, framed_length (family_number c.args.family) c.args.slots.now c.set.new.slots c.set.ensures.framed, c.seek-pointer.ensures.stands)
-
 pub returns : goal.returns
 returns c =
     let ss = c.args.slots.now in

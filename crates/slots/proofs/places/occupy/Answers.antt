@@ -1,19 +1,7 @@
-use Rattle.std.proofs.Common.{ℕ, refl, sym, ap, ◌∙◌, arith}
+use Rattle.std.proofs.Common.{ℕ, refl, sym, ap}
 use Rattle.slots.specs.Columns.{code}
-use Rattle.slots.proofs.LinkFacts.{framed_length, linked_framed, lengths_framed, written_items, written_linked}
+use Rattle.slots.proofs.LinkFacts.{framed_length, written_items, written_linked}
 use Rattle.slots.proofs.places.occupy.Goals as goal
-
-pub link-requires-2 : goal.link-requires-2
-link-requires-2 c =
-    let ss = c.args.slots.now in
-    let s₁ = c.link.new.slots in
-    let f = c.link.ensures.framed in
-    let l = framed_length 0 ss s₁ f in
-    record {
-      place = (omega (arith, l), (omega (arith, l), omega arith));
-      linked = linked_framed 0 1 ss s₁ (λ z. absurd (omega arith)) f c.requires.linked.1;
-      vacant = lengths_framed 0 ss s₁ f c.args.i ∙ c.requires.vacant;
-    }
 
 pub returns : goal.returns
 returns c =

@@ -1,17 +1,6 @@
-use Rattle.std.proofs.Common.{refl, arith}
-use Rattle.slots.proofs.LinkFacts.{framed_length, linked_framed, lengths_framed, written_items, vacated_linked}
+use Rattle.std.proofs.Common.{refl}
+use Rattle.slots.proofs.LinkFacts.{framed_length, written_items, vacated_linked}
 use Rattle.slots.proofs.places.vacate.Goals as goal
-
-pub unlink-requires-2 : goal.unlink-requires-2
-unlink-requires-2 c =
-    let ss = c.args.slots.now in
-    let s₁ = c.unlink.new.slots in
-    let f = c.unlink.ensures.framed in
-    record {
-      place = omega (arith, framed_length 0 ss s₁ f);
-      linked = linked_framed 0 1 ss s₁ (λ z. absurd (omega arith)) f c.requires.linked.1;
-      filled = omega (arith, lengths_framed 0 ss s₁ f c.args.i, c.requires.filled);
-    }
 
 pub returns : goal.returns
 returns c =
