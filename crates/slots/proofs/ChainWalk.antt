@@ -21,10 +21,6 @@ pub above : (v i : ℕ) → slot_of v ≡ Some i → v ≡ suc i
 above zero i e = cc
 above (suc v) i e = cc
 
-pub ended : (v : ℕ) → slot_of v ≡ None → v ≡ 0
-ended zero e = refl
-ended (suc v) e = cc
-
 module _ (k : ℕ) (ss : List Slot) (l : Linked k ss) (q : ℕ) (is : q ≡ k) (low : q < 2) where
   abbrev cs : ℕ → ℕ
   cs = codes k (length ss) (items ss)

@@ -14,9 +14,6 @@ use Rattle.slots.proofs.ChainFacts.{except_here, except_other, unlinked_heads, u
 pub framed_length : (k : ℕ) (ss ss' : List Slot) → Framed k ss ss' → length ss' ≡ length ss
 framed_length k ss ss' f = sym (length-map ss' (λ s. s.item)) ∙ ap length f.items ∙ length-map ss (λ s. s.item)
 
-pub lengths_framed : (k : ℕ) (ss ss' : List Slot) → Framed k ss ss' → (j : ℕ) → lengths ss' j ≡ lengths ss j
-lengths_framed k ss ss' f j = ap (λ (rs : List Item). get_or (map (λ r. r.len) rs) j 0) f.items
-
 -- both say where the last place of b below m is
 top_le : (c : ℕ → ℕ) (m b v w : ℕ) → Top c m b v → Top c m b w → w ≤ v
 top_le c m b v w t s =
@@ -108,12 +105,6 @@ code_free k n (r ∷ rs) (suc i) h e = code_free k n rs i (le_of_suc-le-suc h) e
 
 pub length_items : (ss : List Slot) → length (items ss) ≡ length ss
 length_items ss = length-map ss (λ s. s.item)
-
-pub linked_framed : (k q : ℕ) (ss ss₁ : List Slot) → (q ≡ k → ⊥) → Framed k ss ss₁ → Linked q ss → Linked q ss₁
-linked_framed k q ss ss₁ n f t =
-    let l = framed_length k ss ss₁ f in
-    let cs : codes q (length ss) (items ss) ≡ codes q (length ss₁) (items ss₁) = ap (λ (z : ℕ). codes q z (items ss)) (sym l) ∙ ap (codes q (length ss₁)) (sym f.items) in
-    subst (λ (c : ℕ → ℕ). Chained q c ss₁) cs (chained_same q (codes q (length ss) (items ss)) ss ss₁ (f.heads q n) (f.nexts q n) l t)
 
 -- both families, after slot i was taken out of them or put in, and its item written
 module _ (ss ss₁ ss₂ : List Slot) (i x₀ x₁ : ℕ) (h : i < length ss) (f₀ : Framed 0 ss ss₁) (f₁ : Framed 1 ss₁ ss₂)

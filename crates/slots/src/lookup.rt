@@ -93,7 +93,8 @@ impl SlotTable<'_> {
     }
 
     /// The slot of the entry with this rank in the partition.
-    pub(crate) fn at_rank(&self, partition: u16, rank: u32) -> Option<usize>
+    // Kept: it and `place` are a few calls each, and a function for both would take what they differ in: the chain, the family and the test.
+    fn at_rank(&self, partition: u16, rank: u32) -> Option<usize>
         ensures hit { IfSome result (HasRankAt self.now partition rank) }
         ensures miss { IfNone result (LacksRank self.now partition rank) }
     {

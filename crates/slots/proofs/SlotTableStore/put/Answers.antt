@@ -13,11 +13,11 @@ use Rattle.slots.proofs.StateFacts.{missed, key_low}
 use Rattle.slots.proofs.RankState.{put_made, added_perm}
 use Rattle.slots.proofs.SlotTableStore.put.Goals as goal
 
-pub returns-then-self : goal.returns-then-self
-returns-then-self c =
+pub returns-then-self-clause-gives : goal.returns-then-self-clause-gives
+returns-then-self-clause-gives c =
     let t = c.args.self.now in
     let h = missed t t.used _ _ (lacks c.place.result c.place.ensures.miss (sym c.is_some.ensures ∙ c.if-is_some.false)).is (omega arith) in
-    record { gives = sym (put_full class (room_of t) (held t) _ _ (sym c.if-not-is_key.ensures) h.has (omega (arith, used_held t))) ∙ put_answer_perm class (room_of t) c.args.partition c.args.name.now (by_rank_perm t); leaves = refl; keeps = refl; spares = refl }
+    sym (put_full class (room_of t) (held t) _ _ (sym c.if-not-is_key.ensures) h.has (omega (arith, used_held t))) ∙ put_answer_perm class (room_of t) c.args.partition c.args.name.now (by_rank_perm t)
 
 pub overflow_add-self-2 : goal.overflow_add-self-2
 overflow_add-self-2 c =

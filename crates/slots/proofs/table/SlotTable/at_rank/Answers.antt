@@ -1,5 +1,4 @@
-use Rattle.std.proofs.Common.{ℕ, Bool, length, sym, rules, tests, arith}
-use Rattle.std.proofs.lemmas.Bool.{eqb-true}
+use Rattle.std.proofs.Common.{ℕ, Bool, length, rules, tests}
 use Rattle.std.proofs.lemmas.Iterator.Consumers.{YieldsList-from_first}
 use Rattle.std.proofs.lemmas.Iterator.Search.{find_from_yields_List}
 use Rattle.slots.specs.Ranks.{in_rank}
@@ -9,15 +8,6 @@ use Rattle.slots.specs.Walk.{items_left}
 use Rattle.slots.proofs.ChainWalk.{chain_items, found_in, mapped, hits, misses}
 use Rattle.slots.proofs.Walks.{rank_found, rank_lacks}
 use Rattle.slots.proofs.table.SlotTable.at_rank.Goals as goal
-
-pub returns-then-is_empty : goal.returns-then-is_empty
-returns-then-is_empty c =
-    let t = c.args.self.now in
-    let z = eqb-true _ _ (sym c.if-is_empty.ensures) in
-    record { hit = tt; miss = record { none = λ j h. absurd (omega (arith, z, t.within)) } }
-
-pub new-requires-clause-linked : goal.new-requires-clause-linked
-new-requires-clause-linked c = c.args.self.now.lent.linked.1
 
 pub returns : goal.returns
 returns c =

@@ -1,29 +1,14 @@
-use Rattle.std.proofs.Common.{◌≡◌, ℕ, Bool, length, sym, rules, tests, arith}
-use Rattle.std.proofs.lemmas.Bool.{eqb-true}
+use Rattle.std.proofs.Common.{ℕ, Bool, length, rules, tests}
 use Rattle.std.proofs.lemmas.Iterator.Consumers.{YieldsList-from_first}
 use Rattle.std.proofs.lemmas.Iterator.Search.{find_from_yields_List}
-use Rattle.store.specs.Entries.{has_key, index}
-use Rattle.store.proofs.KeyFacts.{index_le}
-use Rattle.slots.specs.Held.{held}
-use Rattle.slots.specs.Lawful.{length_held}
+use Rattle.store.specs.Entries.{has_key}
 use Rattle.slots.specs.Table.{entry_in}
 use Rattle.slots.specs.declared.slot.Item.{Item}
 use Rattle.slots.specs.Columns.{codes, items}
 use Rattle.slots.specs.Walk.{items_left}
 use Rattle.slots.proofs.ChainWalk.{chain_items, found_in, mapped, hits, misses}
-use Rattle.slots.proofs.StateFacts.{none_found}
 use Rattle.slots.proofs.Walks.{key_found, key_lacks}
 use Rattle.slots.proofs.table.SlotTable.place.Goals as goal
-
-pub returns-then-is_empty : goal.returns-then-is_empty
-returns-then-is_empty c =
-    let t = c.args.self.now in
-    let z = eqb-true _ _ (sym c.if-is_empty.ensures) in
-    let e : t.used ≡ index (held t) c.args.partition c.args.name.now = omega (arith, index_le (held t) c.args.partition c.args.name.now, length_held t, z, t.within) in
-    record { hit = tt; miss = record { is = e; gives = none_found t _ _ _ e (omega arith) } }
-
-pub new-requires-clause-linked : goal.new-requires-clause-linked
-new-requires-clause-linked c = c.args.self.now.lent.linked.0
 
 pub returns : goal.returns
 returns c =
