@@ -144,14 +144,10 @@ pub misses : {N M : Type 0} (P : ℕ → Type 0) (r : Option ℕ) → MatchOptio
 misses P None h f = f h
 misses P (Some i) h f = tt
 
--- where there is none, and where there is one
+-- where there is none
 pub lacks : {M : Type 0} (r : Option ℕ) → IfNone r M → is_some r ≡ false → M
 lacks None h e = h
 lacks (Some i) h e = cc
-
-pub has : {P : ℕ → Type 0} (r : Option ℕ) → IfSome r P → is_some r ≡ true → (i : ℕ) × P i
-has None h e = cc
-has (Some i) h e = (i, h)
 
 pub some_of : {M : Type 0} (r : Option ℕ) → IfNone r M → (M → ⊥) → is_some r ≡ true
 some_of None h f = absurd (f h)
