@@ -3,11 +3,10 @@ use Rattle.std.specs.List.{prefix_len, last_or}
 use Rattle.std.proofs.lemmas.Iterator.{YieldsList-from_map, items_from_drains}
 use Rattle.std.proofs.lemmas.Iterator.Consumers.{YieldsList-from_first, YieldsList-at}
 use Rattle.std.proofs.lemmas.Iterator.Search.{YieldsList-from_take_while}
-use Rattle.slots.specs.declared.slot.Slot.{Slot}
 use Rattle.slots.specs.Columns.{codes, items}
 use Rattle.slots.specs.Links.{family_number}
-use Rattle.slots.specs.Walk.{chain_below, numbered, items_left, slots_left}
-use Rattle.slots.proofs.ChainWalk.{Passes, pass, passed, numbers_of, same_items}
+use Rattle.slots.specs.Walk.{chain_below, numbered, items_left}
+use Rattle.slots.proofs.ChainWalk.{chain_items, Passes, pass, passed, numbers_of, same_items}
 use Rattle.slots.proofs.chains.seek.Goals as goal
 
 pub returns : goal.returns
@@ -17,7 +16,7 @@ returns c =
     let k = family_number c.args.family in
     let ms = chain_below k ss n c.args.b in
     let test : ℕ → _ = λ j. ltb c.args.i j in
-    let left : items_left c.new.result ≡ map (numbered ss) ms = ap (λ (l : List Slot). map (numbered l) (slots_left c.new.result)) c.new.ensures.slots ∙ ap (map (numbered ss)) c.new.ensures.left in
+    let left = chain_items c.new.result k ss c.args.b c.new.ensures.slots c.new.ensures.left in
     let ran = c.last.ensures.ran in
     let gave =
     items_from_drains ran.0 (ran.1.1.0, ran.1.1.1, λ _. (ran.1.0, ran.1.1.2))
