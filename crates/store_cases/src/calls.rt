@@ -76,8 +76,11 @@ pub(crate) fn put<S: Store>(
     name: &str,
     number: u64,
 ) -> io::Result<()> {
-    let answer = store.put(partition, name.as_bytes(), number);
-    println!(rt; "put {partition} \"{name}\" {number}: {answer:?}")
+    print!(rt; "put {partition} \"{name}\" {number}: ")?;
+    match store.put(partition, name.as_bytes(), number) {
+        Ok(()) => println!(rt; "Added"),
+        Err(error) => println!(rt; "{error:?}"),
+    }
 }
 
 pub(crate) fn find<S: Store>(
@@ -107,8 +110,11 @@ fn relocate<S: Store>(
     to: u16,
     name: &str,
 ) -> io::Result<()> {
-    let answer = store.relocate(from, to, name.as_bytes());
-    println!(rt; "move {from} to {to} \"{name}\": {answer:?}")
+    print!(rt; "move {from} to {to} \"{name}\": ")?;
+    match store.relocate(from, to, name.as_bytes()) {
+        Ok(()) => println!(rt; "Moved"),
+        Err(error) => println!(rt; "{error:?}"),
+    }
 }
 
 /// Counts and lists a partition. The order is open, so the record numbers are added up, and each entry listed is looked up again.
@@ -133,32 +139,15 @@ pub(crate) fn list<S: Store>(rt: &impl Print, store: &S, partition: u16) -> io::
 
 /// Whether the name that was listed is in the partition with the number that was listed, and zeros stand behind it.
 fn is_found<S: Store>(store: &S, partition: u16, bytes: &[u8; 32], entry: ListedEntry) -> bool {
-    let mut len = 0usize;
-    for byte in bytes {
-        if *byte == 0 {
-            break;
-        }
-        len = len.saturating_add(1);
-    }
-    match (bytes.get(0..len), bytes.get(len..32)) {
-        (Some(name), Some(rest)) => len == entry.len as usize
-            && all(rest, 0)
-            && store.find(partition, name) == Some(entry.number),
-        _ => false,
-    }
+    bytes.split_at_checked(usize::from(entry.len)).is_some_and(|(name, rest)| {
+        !name.contains(&0)
+            && rest.iter().all(|byte| *byte == 0)
+            && store.find(partition, name) == Some(entry.number)
+    })
 }
 
 /// Whether entry k is absent and its call writes no byte.
 fn is_absent<S: Store>(store: &S, partition: u16, k: usize) -> bool {
     let mut bytes = [0xFF; 32];
-    store.entry(partition, k, &mut bytes).is_none() && all(&bytes, 0xFF)
-}
-
-fn all(bytes: &[u8], byte: u8) -> bool {
-    for b in bytes {
-        if *b != byte {
-            return false;
-        }
-    }
-    true
+    store.entry(partition, k, &mut bytes).is_none() && bytes == [0xFF; 32]
 }

@@ -30,7 +30,6 @@ fn two_entries(rt: &impl Print, bytes: &mut [u8]) -> io::Result<()> {
 fn dump(rt: &impl Print, bytes: &[u8]) -> io::Result<()> {
     print!(rt; "bytes")?;
     for byte in bytes {
-        let byte = *byte;
         print!(rt; " {byte:02X}")?;
     }
     println!(rt; "")

@@ -1,90 +1,101 @@
-use store::{MoveAnswer, PutAnswer, Store};
+use crate::clock::since;
+use std::io;
+use std::time::Instant;
+use store::Store;
 
-/// The calls that are measured, in the order in which they are made: the last one empties the store again.
-#[derive(Clone, Copy)]
-pub(crate) enum Call {
-    Put,
-    Find,
-    Count,
-    Entry,
-    Move,
-    Take,
+/// How long the calls of one kind took, and how many of them were answered as they should be.
+#[derive(Clone, Copy, Default)]
+pub(crate) struct Spent {
+    pub(crate) nanoseconds: u64,
+    pub(crate) right: u64,
 }
 
-pub(crate) const CALLS: [Call; 6] = [
-    Call::Put,
-    Call::Find,
-    Call::Count,
-    Call::Entry,
-    Call::Move,
-    Call::Take,
-];
-
-impl Call {
-    pub(crate) fn words(self) -> &'static str {
-        match self {
-            Call::Put => "put",
-            Call::Find => "find",
-            Call::Count => "count",
-            Call::Entry => "entry k",
-            Call::Move => "move",
-            Call::Take => "take",
-        }
+impl Spent {
+    pub(crate) fn add(&mut self, other: Spent) {
+        self.nanoseconds = self.nanoseconds.saturating_add(other.nanoseconds);
+        self.right = self.right.saturating_add(other.right);
     }
 }
 
-/// Makes a call for each of `count` entries, and says how many were answered as they should be.
-pub(crate) fn call_all<S: Store>(store: &mut S, call: Call, count: u32) -> u32 {
-    let mut right = 0u32;
+/// The kinds of calls, in the order in which `round` makes them.
+pub(crate) const CALLS: [&str; 6] = ["put", "find", "count", "entry k", "move", "take"];
+
+/// Makes each call for every entry: the store is filled, and emptied again. A move takes an entry half way round.
+pub(crate) fn round<S: Store>(
+    rt: &HostRuntime,
+    store: &mut S,
+    count: u32,
+) -> io::Result<[Spent; 6]> {
+    Ok([
+        time(rt, count, |i| put_entry(store, i))?,
+        time(rt, count, |i| {
+            store.find(home(i), &name_of(i)) == Some(u64::from(i))
+        })?,
+        time(rt, count, |i| store.count(home(i)) > 0)?,
+        time(rt, count, |i| {
+            let k = (i / 512) as usize;
+            store.entry(home(i), k, &mut [0; 32]).is_some()
+        })?,
+        time(rt, count, |i| {
+            store.relocate(home(i), away(i), &name_of(i)).is_ok()
+        })?,
+        time(rt, count, |i| {
+            store.take(away(i), &name_of(i)) == Some(u64::from(i))
+        })?,
+    ])
+}
+
+/// Makes a call for each of `count` entries. `call` says whether it was answered as it should be.
+fn time<F: FnMut(u32) -> bool>(rt: &HostRuntime, count: u32, mut call: F) -> io::Result<Spent>
+    requires { F.IsAlwaysCallable call }
+{
+    let start = Instant::now(rt)?;
+    let mut right = 0u64;
     for turn in 0..count {
-        if make_call(store, call, scattered(turn, count)) {
+        if call(scattered(turn, count)) {
             right = right.saturating_add(1);
         }
     }
-    right
+    let nanoseconds = since(rt, start)?;
+    Ok(Spent { nanoseconds, right })
+}
+
+/// Puts every entry.
+pub(crate) fn fill<S: Store>(store: &mut S, count: u32) {
+    for i in 0..count {
+        put_entry(store, i);
+    }
+}
+
+/// Puts entry `i`, and says whether it was added.
+fn put_entry<S: Store>(store: &mut S, i: u32) -> bool {
+    store.put(home(i), &name_of(i), u64::from(i)).is_ok()
+}
+
+/// The partition of entry `i`: the entries are spread over all partitions.
+fn home(i: u32) -> u16 {
+    (i % 512) as u16
+}
+
+/// The partition that entry `i` is moved to.
+fn away(i: u32) -> u16 {
+    ((i % 512 + 256) % 512) as u16
 }
 
 /// The entries in another order than that of their numbers: 7919 is prime and divides none of the counts.
 fn scattered(turn: u32, count: u32) -> u32 {
-    if count == 0 {
-        return 0;
-    }
-    ((turn as u64 * 7919) % count as u64) as u32
-}
-
-/// Makes a call for entry `i`. The entries are spread over all partitions, and a move takes each half way round.
-fn make_call<S: Store>(store: &mut S, call: Call, i: u32) -> bool {
-    let name = name_of(i);
-    let home = (i % 512) as u16;
-    let away = (home + 256) % 512;
-    match call {
-        Call::Put => matches!(store.put(home, &name, i as u64), PutAnswer::Added),
-        Call::Find => store.find(home, &name) == Some(i as u64),
-        Call::Count => store.count(home) > 0,
-        Call::Entry => {
-            let mut bytes = [0; 32];
-            store.entry(home, (i / 512) as usize, &mut bytes).is_some()
-        }
-        Call::Move => matches!(store.relocate(home, away, &name), MoveAnswer::Moved),
-        Call::Take => store.take(away, &name) == Some(i as u64),
-    }
+    (u64::from(turn) * 7919)
+        .checked_rem(u64::from(count))
+        .map_or(0, |i| i as u32)
 }
 
 /// The sensor name of entry `i`: eight hexadecimal digits.
 fn name_of(i: u32) -> [u8; 8] {
-    let mut name = [b'0'; 8];
+    let mut name = [0; 8];
     let mut rest = i;
-    for k in 0..8 {
-        name[7 - k] = digit(rest % 16);
+    for digit in name.iter_mut().rev() {
+        *digit = b"0123456789ABCDEF"[(rest % 16) as usize];
         rest /= 16;
     }
     name
-}
-
-fn digit(value: u32) -> u8 {
-    match value {
-        0..=9 => b'0' + value as u8,
-        10..=15 => b'A' + (value - 10) as u8,
-        _ => b'?',
-    }
 }

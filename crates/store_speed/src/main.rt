@@ -1,6 +1,7 @@
 // Measures the calls of the stores at several numbers of entries.
 #![tactic(auto)]
 
+mod clock;
 mod load;
 mod measure;
 
