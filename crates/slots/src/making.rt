@@ -12,11 +12,11 @@ use std::fmt;
 /// The most slots that a table may lie in.
 const MOST: usize = 1_048_576;
 
-/// Why slots are refused.
+/// Why slots are refused, with the number of the refusal in answers.
 #[derive(Clone, Copy, PartialEq, Eq, Debug)]
 pub enum SlotsRefusal {
     /// There are more than 1,048,576.
-    TooMany,
+    TooMany = 32,
 }
 
 impl SlotsRefusal {
@@ -24,9 +24,7 @@ impl SlotsRefusal {
     pub fn number(self) -> u8
         ensures { result ≡ refusal_number self }
     {
-        match self {
-            SlotsRefusal::TooMany => 32,
-        }
+        self as u8
     }
 }
 

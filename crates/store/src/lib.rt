@@ -16,22 +16,13 @@ pub use keys::{LAST_PARTITION, is_key};
 pub use laws::{bad_keys_are_unanswered, entries_are_listed_once};
 
 /// A set of entries under a capacity. An entry is a partition, a short form and a record number; partition and short form are its key.
+// Kept: the key is two arguments. Of a struct that holds the name a clause would say `key.entry.partition` and `key.entry.name.now`.
 pub trait Store {
     /// The entries, in the store's own order.
     ghost entries: { Self → List Entry };
 
     /// The capacity, and the weight of a name of each length. No call changes them.
     ghost room: { Self → Room };
-
-    /// Every key is a good one, and none comes twice.
-    ghost lawful: { (s : Self) → sound class (entries s) ≡ true };
-
-    ghost bounded: { (s : Self) → (room s).capacity ≤ 1048576 };
-
-    ghost weighty: { (s : Self) (len : ℕ) → 1 ≤ (room s).weight len };
-
-    /// The weights of all entries are within the capacity.
-    ghost within: { (s : Self) → used (room s).weight (entries s) ≤ (room s).capacity };
 
     /// The record number of the entry with this key, or absent.
     fn find(&self, partition: u16, name: &[u8]) -> Option<u64>
@@ -69,4 +60,14 @@ pub trait Store {
     fn clear(&mut self)
         ensures empties { entries self.new ≡ [] }
         ensures keeps { room self.new ≡ room self.old };
+
+    /// Every key is a good one, and none comes twice.
+    ghost lawful: { (s : Self) → sound class (entries s) ≡ true };
+
+    ghost bounded: { (s : Self) → (room s).capacity ≤ 1048576 };
+
+    ghost weighty: { (s : Self) (len : ℕ) → 1 ≤ (room s).weight len };
+
+    /// The weights of all entries are within the capacity.
+    ghost within: { (s : Self) → used (room s).weight (entries s) ≤ (room s).capacity };
 }
