@@ -1,12 +1,10 @@
 -- What a packed image holds as a store.
-use Rattle.std.specs.Prelude.{◌≡◌, ℕ, List, [], ◌∷◌, ◌++◌, take, drop, Some, None, Option, slice_set}
+use Rattle.std.specs.Prelude.{◌≡◌, ℕ, List, [], ◌∷◌, ◌++◌, take, drop, Some, None, Ok, Err, Option, Result, slice_set}
 use Rattle.names.specs.declared.byte_class.ByteClass.{ByteClass}
 use Rattle.store.specs.Calls.{number_in}
 use Rattle.store.specs.Entries.{Entry, Room, entry_of, found, without, index}
-use Rattle.store.specs.declared.answers.MoveAnswer.{MoveAnswer}
-use Rattle.store.specs.declared.answers.MoveAnswer.TheVariants.{Moved, Absent, Present as Taken}
-use Rattle.store.specs.declared.answers.PutAnswer.{PutAnswer}
-use Rattle.store.specs.declared.answers.PutAnswer.TheVariants.{Added, Present, Full, BadKey}
+use Rattle.store.specs.declared.answers.MoveError.{MoveError}
+use Rattle.store.specs.declared.answers.PutError.{PutError}
 use Rattle.image.specs.Format.{image_room}
 use Rattle.image.specs.Reading.{listed}
 use Rattle.image.specs.declared.packed.PackedImage.{PackedImage}
@@ -32,11 +30,9 @@ abbrev pub Beyond : PackedImage → PackedImage → Type 0
 Beyond s s' = drop s.len (all_bytes s') ≡ drop s.len (all_bytes s)
 
 -- the entries after a put of e, in their order: a new one comes last
-abbrev pub put_order : PutAnswer → List Entry → Entry → List Entry
-put_order Added es e = es ++ e ∷ []
-put_order Present es e = es
-put_order Full es e = es
-put_order BadKey es e = es
+abbrev pub put_order : Result Unit PutError → List Entry → Entry → List Entry
+put_order (Ok _) es e = es ++ e ∷ []
+put_order (Err _) es e = es
 
 -- the entries after a take, in their order: those behind the one that goes close up
 abbrev pub take_order : Option ℕ → List Entry → ℕ → List ℕ → List Entry
@@ -48,7 +44,6 @@ abbrev pub passed : List Entry → ℕ → ℕ → List ℕ → Entry
 passed es p q n = entry_of q n (number_in (found es p n))
 
 -- the entries after a move from p to q, in their order: the one that goes stays in its place
-abbrev pub move_order : MoveAnswer → List Entry → ℕ → ℕ → List ℕ → List Entry
-move_order Moved es p q n = slice_set es (index es p n) (passed es p q n)
-move_order Absent es p q n = es
-move_order Taken es p q n = es
+abbrev pub move_order : Result Unit MoveError → List Entry → ℕ → ℕ → List ℕ → List Entry
+move_order (Ok _) es p q n = slice_set es (index es p n) (passed es p q n)
+move_order (Err _) es p q n = es

@@ -11,7 +11,7 @@ use crate::field::record_length;
 use crate::packed::PackedImage;
 use crate::search::{count_inside, nth_inside, records_end, seek};
 use crate::write::write_name;
-use store::{LAST_PARTITION, ListedEntry, MoveAnswer, PutAnswer, Store, is_key};
+use store::{LAST_PARTITION, ListedEntry, MoveError, PutError, Store, is_key};
 
 impl PackedImage<'_> {
     /// The bytes that the store lies in.
@@ -56,7 +56,7 @@ impl Store for PackedImage<'_> {
         number
     }
 
-    fn put(&mut self, partition: u16, name: &[u8], number: u64) -> PutAnswer
+    fn put(&mut self, partition: u16, name: &[u8], number: u64) -> Result<(), PutError>
         ensures gives { result ≡ put_answer class (room_of self.old) (held class self.old) partition name.now }
         ensures order { held class self.new ≡ put_order result (held class self.old) (entry_of partition name.now number) }
         ensures leaves { PutLeaves result (held class self.old) (entry_of partition name.now number) (held class self.new) }
@@ -65,17 +65,17 @@ impl Store for PackedImage<'_> {
         ensures lends { self.new.bytes.image.ghost_name ≡ self.old.bytes.image.ghost_name }
     {
         if !is_key(partition, name) {
-            return PutAnswer::BadKey;
+            return Err(PutError::BadKey);
         }
         let (at, held) = self.look(partition, name);
         if held.is_some() {
-            return PutAnswer::Present;
+            return Err(PutError::Present);
         }
         if self.len - at < record_length(name) {
-            return PutAnswer::Full;
+            return Err(PutError::Full);
         }
         self.bytes.write(at, partition, name, number);
-        PutAnswer::Added
+        Ok(())
     }
 
     fn take(&mut self, partition: u16, name: &[u8]) -> Option<u64>
@@ -95,7 +95,7 @@ impl Store for PackedImage<'_> {
         number
     }
 
-    fn relocate(&mut self, from: u16, to: u16, name: &[u8]) -> MoveAnswer
+    fn relocate(&mut self, from: u16, to: u16, name: &[u8]) -> Result<(), MoveError>
         ensures gives { result ≡ move_answer (held class self.old) from to name.now }
         ensures order { held class self.new ≡ move_order result (held class self.old) from to name.now }
         ensures leaves { MoveLeaves result (held class self.old) from to name.now (held class self.new) }
@@ -104,18 +104,18 @@ impl Store for PackedImage<'_> {
         ensures lends { self.new.bytes.image.ghost_name ≡ self.old.bytes.image.ghost_name }
     {
         if to > LAST_PARTITION {
-            return MoveAnswer::Absent;
+            return Err(MoveError::Absent);
         }
         let (at, number) = self.look(from, name);
         if number.is_none() {
-            return MoveAnswer::Absent;
+            return Err(MoveError::Absent);
         }
         let (_, other) = self.look(to, name);
         if other.is_some() {
-            return MoveAnswer::Present;
+            return Err(MoveError::Present);
         }
         self.bytes.repartition(at, to);
-        MoveAnswer::Moved
+        Ok(())
     }
 
     fn count(&self, partition: u16) -> usize {
