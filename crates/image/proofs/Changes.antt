@@ -306,12 +306,3 @@ module _ (image : List ℕ) (len : ℕ) (within : len ≤ length image) (es : Li
         image = image_from len new [] (omega arith) (packed_from (take len new) [] len (ap (take len) all ∙ take_at (replicate len 0) (drop len image) len (length-replicate {A = ℕ} len 0)) (record { keys = refl; numbers = refl }));
         beyond = ap (drop len) all ∙ drop_at (replicate len 0) (drop len image) len (length-replicate {A = ℕ} len 0);
       }
-
--- an answer of a take that has a number
-pub taken_order : (o : Option ℕ) (es es' : List Entry) (p : ℕ) (n : List ℕ) → is_some o ≡ true → es' ≡ without es p n → es' ≡ take_order o es p n
-taken_order None es es' p n h e = absurd (false≢true h)
-taken_order (Some k) es es' p n h e = e
-
-pub taken_leaves : (o : Option ℕ) (es es' : List Entry) (p : ℕ) (n : List ℕ) → is_some o ≡ true → es' ≡ without es p n → TakeLeaves o es p n es'
-taken_leaves None es es' p n h e = absurd (false≢true h)
-taken_leaves (Some k) es es' p n h e = subst (IsPermutation (without es p n)) (sym e) (IsPermutation-refl (without es p n))

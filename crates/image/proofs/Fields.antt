@@ -1,5 +1,5 @@
 -- One field: its checks, and what a field without a fault has.
-use Rattle.std.proofs.Common.{◌≡◌, ℕ, ◌+◌, ◌-◌, ◌≤◌, Bool, true, false, cond, eqb, leb, List, length, get_or, take, drop, Some, None, Option, refl, arith}
+use Rattle.std.proofs.Common.{◌≡◌, ℕ, ◌+◌, ◌-◌, ◌≤◌, ◌⊎◌, inl, inr, Bool, true, false, cond, eqb, leb, List, length, get_or, take, drop, Some, None, Option, refl, arith}
 use native.Mathlib.Nat.{sub-zero}
 use Rattle.std.specs.Option.{option_map}
 use Rattle.std.proofs.lemmas.List.{take_rest, length-take-le, length-drop}
@@ -11,6 +11,10 @@ use Rattle.image.specs.declared.fault.FieldFault.TheVariants.{NoLength, Length, 
 
 pub some_none : {X : Type 0} (x : X) → Some x ≡ None → ⊥
 some_none x h = let z : ◌≡◌ {A = ℕ} 0 1 = cc in omega arith
+
+pub option_cases : {X : Type 0} (o : Option X) → (o ≡ None) ⊎ ((x : X) × (o ≡ Some x))
+option_cases None = inl refl
+option_cases (Some x) = inr (x, refl)
 
 pub cond_none : {X : Type 0} (b : Bool) (o : Option X) (x : X) → cond b o (Some x) ≡ None → (b ≡ true) × (o ≡ None)
 cond_none true o x h = (refl, h)

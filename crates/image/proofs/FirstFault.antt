@@ -12,14 +12,10 @@ use Rattle.image.specs.Theorems.{Wrong, First}
 use Rattle.image.specs.declared.fault.RecordFault.{RecordFault}
 use Rattle.image.specs.declared.fault.ImageFault.{ImageFault}
 use Rattle.image.specs.declared.fault.ImageFault.TheVariants.{Record, SecondEntry, NonZeroByte}
-use Rattle.image.proofs.Fields.{some_none}
+use Rattle.image.proofs.Fields.{some_none, option_cases}
 use Rattle.image.proofs.Encoding.{whole_from, record_spelled, spelled_back, key_read, number_read}
 use Rattle.image.proofs.LawfulLists.{Lawful, lawful_push}
 use Rattle.image.proofs.Listing.{name_long}
-
-option_cases : {X : Type 0} (o : Option X) → (o ≡ None) ⊎ ((x : X) × (o ≡ Some x))
-option_cases None = inl refl
-option_cases (Some x) = inr (x, refl)
 
 some_same : {X : Type 0} (x y : X) → Some x ≡ Some y → x ≡ y
 some_same x y h = cc

@@ -1,13 +1,15 @@
 -- Lists of entries that can be written: every key is a good one, none comes twice, and every number fits.
-use Rattle.std.proofs.Common.{◌≡◌, ℕ, zero, suc, ◌<◌, ◌≤◌, Bool, true, false, cond, ◌&&◌, ◌||◌, eqb, leb, List, [], ◌∷◌, ◌++◌, length, get_or, set, is_some, Some, Option, sym, refl, ap, ◌∙◌, subst, ⊎_elim}
+use Rattle.std.proofs.Common.{◌≡◌, ℕ, zero, suc, ◌<◌, ◌≤◌, Bool, true, false, cond, ◌&&◌, ◌||◌, eqb, leb, List, [], ◌∷◌, ◌++◌, length, get_or, set, is_some, is_ok, Some, None, Ok, Err, Option, Result, sym, refl, ap, ◌∙◌, subst, ⊎_elim}
 use Rattle.std.specs.List.{list_all, remove, slice_get}
-use Rattle.std.proofs.lemmas.Bool.{and_parts, and_from, or_parts, or_from, both_ways, cases_lt, leb-true}
+use Rattle.std.proofs.lemmas.Bool.{and_parts, and_from, or_parts, or_from, both_ways, cases_lt, leb-true, false≢true}
 use Rattle.names.specs.Names.{class, is_short}
 use Rattle.store.specs.Entries.{Entry, has_key, found, holds, without, index, inside, entry_of, is_key, sound}
 use Rattle.store.proofs.KeyFacts.{hit, miss, perm_holds}
 use Rattle.store.proofs.Shuffles.{Perm, perm_fold, perm_push, perm_middle, perm_back, perm_out, perm_in}
 use Rattle.store.proofs.SoundFacts.{sound_parts, sound_from, perm_sound}
 use Rattle.image.specs.Format.{number_fits, Packed}
+use Rattle.image.specs.Promises.{Sought}
+use Rattle.image.specs.declared.search.Placed.{Placed}
 use Rattle.image.proofs.Fields.{some_none}
 
 pub record Lawful (es : List Entry) : Type 0 where
@@ -94,6 +96,21 @@ found_by false x o t h = h
 pub found_holds : (es : List Entry) (p : ℕ) (n : List ℕ) → is_some (found es p n) ≡ holds es p n
 found_holds [] p n = refl
 found_holds (e ∷ es) p n = found_by (has_key p n e) e.number (found es p n) (holds es p n) (found_holds es p n)
+
+pub found_is : (es : List Entry) (p : ℕ) (n : List ℕ) (k : ℕ) → found es p n ≡ Some k → holds es p n ≡ true
+found_is es p n k h = sym (found_holds es p n) ∙ ap is_some h
+
+pub found_not : (es : List Entry) (p : ℕ) (n : List ℕ) → found es p n ≡ None → holds es p n ≡ false
+found_not es p n h = sym (found_holds es p n) ∙ ap is_some h
+
+-- what a search answered, by whether it is `Ok`
+pub sought_is : (r : Result Placed ℕ) (es : List Entry) (p : ℕ) (n : List ℕ) → Sought r es p n → is_ok r ≡ true → holds es p n ≡ true
+sought_is (Ok s) es p n h o = found_is es p n s.record.number h.2
+sought_is (Err end) es p n h o = absurd (false≢true o)
+
+pub sought_not : (r : Result Placed ℕ) (es : List Entry) (p : ℕ) (n : List ℕ) → Sought r es p n → is_ok r ≡ false → holds es p n ≡ false
+sought_not (Ok s) es p n h o = absurd (false≢true (sym o))
+sought_not (Err end) es p n h o = found_not es p n h.1
 
 -- a name among the entries of a partition is a short form
 pub nth_key : (es : List Entry) (p k : ℕ) (e : Entry) → sound class es ≡ true → slice_get (inside es p) k ≡ Some e → is_key class e.partition e.name ≡ true

@@ -1,14 +1,19 @@
 -- The entries that are listed of bytes, record by record.
-use Rattle.std.proofs.Common.{◌≡◌, ℕ, zero, suc, ◌+◌, ◌≤◌, false, cond, leb, List, [], ◌∷◌, length, drop, is_some, Some, None, sym, refl, ap, ◌∙◌, arith}
-use Rattle.std.proofs.lemmas.List.{length-drop}
+use Rattle.std.proofs.Common.{◌≡◌, ℕ, zero, suc, ◌+◌, ◌≤◌, false, cond, leb, List, [], ◌∷◌, length, drop, is_some, Some, None, sym, refl, ap, ◌∙◌, ⊎_elim, arith}
+use Rattle.std.specs.Iterator.{YieldsFirstBy}
+use Rattle.std.proofs.lemmas.Iterator.{YieldsList}
+use Rattle.std.proofs.lemmas.Iterator.Consumers.{YieldsList-from_first}
+use Rattle.std.proofs.lemmas.List.{length-drop, length-append}
 use Rattle.std.proofs.lemmas.Bool.{and_left, lt-leb, eqb-true}
 use Rattle.names.specs.Names.{class}
 use Rattle.store.specs.Entries.{Entry}
-use Rattle.image.specs.Format.{weight}
-use Rattle.image.specs.Promises.{FirstEntry}
+use Rattle.image.specs.Format.{weight, record_bytes, encoded}
+use Rattle.image.specs.Lawful.{length_record}
+use Rattle.image.specs.Promises.{entry_in, FirstEntry}
 use Rattle.image.specs.Reading.{content_length, has_tag, record_fault, read_entry, name_field, number_field, next_record, listed_by, listed}
 use Rattle.image.specs.declared.fault.RecordFault.TheVariants.{Tag}
-use Rattle.image.proofs.Fields.{length_content}
+use Rattle.image.specs.declared.records.Records.{Records}
+use Rattle.image.proofs.Fields.{length_content, option_cases}
 use Rattle.image.proofs.Encoding.{Whole, whole_from, whole_fault}
 
 not_one : (bs : List ℕ) (place : ℕ) → has_tag 1 bs ≡ false → record_fault class place bs ≡ Some (Tag place)
@@ -59,3 +64,24 @@ first_entry bs e place fine is =
     let w = whole_from place bs fine in
     let long : content_length (name_field bs) ≡ length e.name = sym (ap (λ (d : Entry). length d.name) is ∙ name_long bs w) in
     (listed_more bs w ∙ (λ i. sym is i ∷ listed class (drop (weight (long i)) bs)), refl, omega (arith, whole_fits bs w, length-drop (weight (length e.name)) bs))
+
+-- the records that are listed lie in the bytes
+encoded_by : (t : ℕ) (bs : List ℕ) → length (encoded (listed_by class t bs)) ≤ length bs
+encoded_by zero bs = omega arith
+encoded_by (suc t) bs =
+    ⊎_elim
+    (λ fine.
+    let w = whole_from 0 bs fine in
+    let e = read_entry bs in
+    let es = listed_by class t (next_record bs) in
+    let l : length (encoded (listed_by class (suc t) bs)) ≡ weight (length e.name) + length (encoded es) = ap (λ l. length (encoded l)) (listed_step t bs w) ∙ length-append (record_bytes e) (encoded es) ∙ ap (λ k. k + length (encoded es)) (length_record e) in
+    omega (arith, l, name_long bs w, whole_fits bs w, encoded_by t (next_record bs), length-drop (weight (content_length (name_field bs))) bs))
+    (λ bad. let b = bad.1 in let l : listed_by class (suc t) bs ≡ [] = rw b refl in omega (arith, ap (λ l. length (encoded l)) l))
+    (option_cases (record_fault class 0 bs))
+
+pub encoded_within : (bs : List ℕ) → length (encoded (listed class bs)) ≤ length bs
+encoded_within bs = encoded_by (length bs) bs
+
+-- what the records of an image yield
+pub records_yield : (records : Records) (image : List ℕ) → records.rest.now ≡ image → YieldsList (YieldsFirstBy entry_in (λ (r : Records). listed class r.rest.now)) entry_in records (listed class image)
+records_yield records image h = YieldsList-from_first entry_in (λ (r : Records). listed class r.rest.now) (listed class image) (ap (listed class) h)

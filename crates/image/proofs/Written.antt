@@ -21,23 +21,6 @@ field_put (x ∷ []) content tag a b h = absurd (omega arith)
 field_put (x ∷ y ∷ []) content tag a b h = absurd (omega arith)
 field_put (x ∷ y ∷ z ∷ part) content tag a b h = ap (λ l. tag ∷ a ∷ b ∷ l) (ap (λ l. content ++ l) (drop_all (length (tag ∷ a ∷ b ∷ part) - 3) part (omega arith)) ∙ append-nil content)
 
--- a part encoded over the end of what begins with f1 and f2
-end_put : (x f1 f2 r f3 : List ℕ) (a j : ℕ) → x ≡ f1 ++ (f2 ++ r) → length f1 + length f2 ≡ a → j ≡ length x - a → put_mid a j x f3 ≡ f1 ++ (f2 ++ f3)
-end_put x f1 f2 r f3 a j e l h =
-    let s : x ≡ (f1 ++ f2) ++ r = e ∙ sym (append_assoc f1 f2 r) in
-    let m : length (f1 ++ f2) ≡ a = length-append f1 f2 ∙ l in
-    let front : take a x ≡ f1 ++ f2 = ap (take a) s ∙ take_at (f1 ++ f2) r a m in
-    let none : drop j (drop a x) ≡ [] = drop_all j (drop a x) (omega (arith, length-drop a x)) in
-    (λ i. front i ++ (f3 ++ none i)) ∙ ap (λ t. (f1 ++ f2) ++ t) (append-nil f3) ∙ append_assoc f1 f2 f3
-
--- three parts encoded one after the other over a whole
-pub three_put : (part f1 f2 f3 : List ℕ) (n : ℕ) → length f1 ≡ 5 → length f2 ≡ 3 + n → put_mid (8 + n) (length (put_mid 5 (8 + n - 5) (f1 ++ drop 5 part) f2) - (8 + n)) (put_mid 5 (8 + n - 5) (f1 ++ drop 5 part) f2) f3 ≡ f1 ++ (f2 ++ f3)
-three_put part f1 f2 f3 n l1 l2 =
-    let x = put_mid 5 (8 + n - 5) (f1 ++ drop 5 part) f2 in
-    let r = drop (8 + n - 5) (drop 5 (f1 ++ drop 5 part)) in
-    let e : x ≡ f1 ++ (f2 ++ r) = ap (λ t. t ++ (f2 ++ r)) (take_at f1 (drop 5 part) 5 l1) in
-    end_put x f1 f2 r f3 (8 + n) (length x - (8 + n)) e (omega arith) refl
-
 -- after a write to `s[a..e]`
 pub mid_put : (old ys : List ℕ) (a e : ℕ) → a ≤ e → put_mid a (e - a) old ys ≡ take a old ++ (ys ++ drop e old)
 mid_put old ys a e h = let s : a + (e - a) ≡ e = omega arith in ap (λ l. take a old ++ (ys ++ l)) (drop-drop (e - a) a old ∙ ap (λ k. drop k old) s)

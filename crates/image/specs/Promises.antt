@@ -1,15 +1,16 @@
 -- What the readers of fields and records promise of their answers, by case.
 use Rattle.std.specs.Prelude.{◌≡◌, ℕ, ◌+◌, true, false, List, ◌∷◌, length, drop, Some, None, Ok, Err, Option, Result, slice_index}
 use Rattle.names.specs.declared.byte_class.ByteClass.{ByteClass}
-use Rattle.store.specs.Entries.{Entry}
-use Rattle.image.specs.Format.{weight}
-use Rattle.image.specs.Reading.{content, from_two, from_eight, field_fault, has_tag, fault_at, record_fault, read_entry, listed}
+use Rattle.store.specs.Entries.{Entry, found}
+use Rattle.image.specs.Format.{weight, encoded}
+use Rattle.image.specs.Reading.{content, from_two, from_eight, field_fault, has_tag, fault_at, record_fault, read_entry, listed, place_of}
 use Rattle.image.specs.declared.fault.FieldFault.{FieldFault}
 use Rattle.image.specs.declared.fault.RecordFault.{RecordFault}
 use Rattle.image.specs.declared.fault.RecordFault.TheVariants.{Tag}
 use Rattle.image.specs.declared.field.Field.{Field}
 use Rattle.image.specs.declared.field.Field.TheVariants.{Partition, Name, Number}
 use Rattle.image.specs.declared.field.Record.{Record}
+use Rattle.image.specs.declared.search.Placed.{Placed}
 
 -- the field that was read at the front of bs
 abbrev pub Says : Field → List ℕ → Type 0
@@ -54,3 +55,8 @@ FirstEntry cls bs e rest = (listed cls bs ≡ e ∷ listed cls rest) × (rest �
 abbrev pub Shows : Option Record → Option Entry → Type 0
 Shows None o = o ≡ None
 Shows (Some r) o = o ≡ Some (entry_in r)
+
+-- the record of the entry under a key and where it begins, or where the records end
+abbrev pub Sought : Result Placed ℕ → List Entry → ℕ → List ℕ → Type 0
+Sought (Ok s) es p n = (s.place ≡ place_of es p n) × (s.record.name.now ≡ n) × (found es p n ≡ Some s.record.number)
+Sought (Err end) es p n = (end ≡ length (encoded es)) × (found es p n ≡ None)

@@ -1,8 +1,8 @@
 ghost use Rattle.std.specs.Prelude.{◌≡◌, ◌+◌, ◌<◌, ◌≤◌, ◌++◌, length, take, drop, replicate};
-ghost use Rattle.store.specs.Entries.{entry_of};
 ghost use Rattle.image.specs.Format.{field, two_bytes, record_bytes, weight};
+ghost use Rattle.image.specs.Promises.{entry_in};
 
-use crate::field::record_length;
+use crate::field::Record;
 use crate::write::{close_up, write_field, write_record};
 
 /// The caller's bytes. It has no invariant, so that parts of them can be lent for writing.
@@ -13,13 +13,13 @@ pub(crate) struct Bytes<'a> {
 
 impl Bytes<'_> {
     /// Writes the record of an entry at `at`.
-    pub(crate) fn write(&mut self, at: usize, partition: u16, name: &[u8], number: u64)
-        requires { (at + weight (length name.now) ≤ length self.old.image.now) × (length name.now < 65536) }
-        ensures after { self.new.image.now ≡ take at self.old.image.now ++ (record_bytes (entry_of partition name.now number) ++ drop (at + weight (length name.now)) self.old.image.now) }
+    pub(crate) fn write(&mut self, at: usize, added: &Record)
+        requires { (at + weight (length added.now.name.now) ≤ length self.old.image.now) × (length added.now.name.now < 65536) }
+        ensures after { self.new.image.now ≡ take at self.old.image.now ++ (record_bytes (entry_in added.now) ++ drop (at + weight (length added.now.name.now)) self.old.image.now) }
         ensures same { self.new.image.ghost_name ≡ self.old.image.ghost_name }
     {
-        let end = at + record_length(name);
-        write_record(&mut self.image[at..end], partition, name, number);
+        let end = at + added.length();
+        write_record(&mut self.image[at..end], added);
     }
 
     /// Writes another partition into the record at `at`.

@@ -5,7 +5,6 @@ ghost use Rattle.image.specs.Promises.{Tells};
 ghost use Rattle.image.specs.Reading.{listed, fault, non_zero};
 
 use crate::fault::ImageFault;
-use crate::field::record_length;
 use crate::read::read_record;
 use crate::search::seek;
 
@@ -19,7 +18,7 @@ pub(crate) fn check_records(image: &[u8]) -> Result<(), ImageFault>
         if has_before(image, at, record.partition, record.name) {
             return Err(ImageFault::SecondEntry(at));
         }
-        at += record_length(record.name);
+        at += record.length();
     }
     check_zeros(image, at)
 }
@@ -29,8 +28,7 @@ fn has_before(image: &[u8], at: usize, partition: u16, name: &[u8]) -> bool
     requires { at ≤ length image.now }
     ensures { result ≡ is_some (found (listed class (take at image.now)) partition name.now) }
 {
-    let (_, number) = seek(&image[0..at], partition, name);
-    number.is_some()
+    seek(&image[..at], partition, name).is_ok()
 }
 
 /// Refuses the first byte from `place` on that is not zero.

@@ -26,11 +26,11 @@ impl Record<'_> {
     {
         self.partition == partition && self.name == name
     }
-}
 
-/// How many bytes the record of an entry with this name has.
-pub(crate) fn record_length(name: &[u8]) -> usize
-    ensures { result ≡ weight (length name.now) }
-{
-    19 + name.len()
+    /// How many bytes the record has.
+    pub(crate) fn length(&self) -> usize
+        ensures { result ≡ weight (length self.now.name.now) }
+    {
+        19 + self.name.len()
+    }
 }

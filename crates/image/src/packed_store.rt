@@ -5,11 +5,12 @@ ghost use Rattle.store.specs.Entries.{entry_of, found};
 ghost use Rattle.image.specs.Format.{encoded};
 ghost use Rattle.image.specs.Held.{own_bytes, held, room_of, Beyond, put_order, take_order, move_order};
 ghost use Rattle.image.specs.Lawful.{bounded, weighty, within};
-ghost use Rattle.image.specs.Reading.{listed, place_of};
+ghost use Rattle.image.specs.Promises.{Sought};
+ghost use Rattle.image.specs.Reading.{listed};
 
-use crate::field::record_length;
+use crate::field::Record;
 use crate::packed::PackedImage;
-use crate::search::{count_inside, nth_inside, records_end, seek};
+use crate::search::{Placed, count_inside, nth_inside, records_end, seek};
 use crate::write::write_name;
 use store::{LAST_PARTITION, ListedEntry, MoveError, PutError, Store, is_key};
 
@@ -18,13 +19,12 @@ impl PackedImage<'_> {
     fn own_bytes(&self) -> &[u8]
         ensures { result.now ≡ own_bytes self.now }
     {
-        &self.bytes.image[0..self.len]
+        &self.bytes.image[..self.len]
     }
 
-    /// Where the record of the entry with this key begins, or where the records end, and the entry's number.
-    fn look(&self, partition: u16, name: &[u8]) -> (usize, Option<u64>)
-        ensures place { result.0 ≡ place_of (held class self.now) partition name.now }
-        ensures number { result.1 ≡ found (held class self.now) partition name.now }
+    /// The record of the entry with this key, or where the records end.
+    fn look(&self, partition: u16, name: &[u8]) -> Result<Placed<'_>, usize>
+        ensures { Sought result (held class self.now) partition name.now }
     {
         seek(self.own_bytes(), partition, name)
     }
@@ -52,8 +52,8 @@ impl Store for PackedImage<'_> {
     ghost within = { within };
 
     fn find(&self, partition: u16, name: &[u8]) -> Option<u64> {
-        let (_, number) = self.look(partition, name);
-        number
+        let held = self.look(partition, name).ok()?;
+        Some(held.record.number)
     }
 
     fn put(&mut self, partition: u16, name: &[u8], number: u64) -> Result<(), PutError>
@@ -67,14 +67,18 @@ impl Store for PackedImage<'_> {
         if !is_key(partition, name) {
             return Err(PutError::BadKey);
         }
-        let (at, held) = self.look(partition, name);
-        if held.is_some() {
+        let Err(end) = self.look(partition, name) else {
             return Err(PutError::Present);
-        }
-        if self.len - at < record_length(name) {
+        };
+        let record = Record {
+            partition,
+            name,
+            number,
+        };
+        if self.len - end < record.length() {
             return Err(PutError::Full);
         }
-        self.bytes.write(at, partition, name, number);
+        self.bytes.write(end, &record);
         Ok(())
     }
 
@@ -86,13 +90,14 @@ impl Store for PackedImage<'_> {
         ensures beyond { Beyond self.old self.new }
         ensures lends { self.new.bytes.image.ghost_name ≡ self.old.bytes.image.ghost_name }
     {
-        let (at, number) = self.look(partition, name);
-        if number.is_none() {
+        let Ok(Placed { place, record }) = self.look(partition, name) else {
             return None;
-        }
-        let end = self.end_from(at);
-        self.bytes.remove(at, end, record_length(name));
-        number
+        };
+        let gap = record.length();
+        let number = record.number;
+        let end = self.end_from(place);
+        self.bytes.remove(place, end, gap);
+        Some(number)
     }
 
     fn relocate(&mut self, from: u16, to: u16, name: &[u8]) -> Result<(), MoveError>
@@ -106,15 +111,13 @@ impl Store for PackedImage<'_> {
         if to > LAST_PARTITION {
             return Err(MoveError::Absent);
         }
-        let (at, number) = self.look(from, name);
-        if number.is_none() {
+        let Ok(Placed { place, .. }) = self.look(from, name) else {
             return Err(MoveError::Absent);
-        }
-        let (_, other) = self.look(to, name);
-        if other.is_some() {
+        };
+        if self.look(to, name).is_ok() {
             return Err(MoveError::Present);
         }
-        self.bytes.repartition(at, to);
+        self.bytes.repartition(place, to);
         Ok(())
     }
 
@@ -123,16 +126,12 @@ impl Store for PackedImage<'_> {
     }
 
     fn entry(&self, partition: u16, k: usize, name: &mut [u8; 32]) -> Option<ListedEntry> {
-        match nth_inside(self.own_bytes(), partition, k) {
-            Some(record) => {
-                write_name(name, record.name);
-                Some(ListedEntry {
-                    len: record.name.len() as u8,
-                    number: record.number,
-                })
-            }
-            None => None,
-        }
+        let record = nth_inside(self.own_bytes(), partition, k)?;
+        write_name(name, record.name);
+        Some(ListedEntry {
+            len: record.name.len() as u8,
+            number: record.number,
+        })
     }
 
     fn clear(&mut self)

@@ -2,9 +2,9 @@ ghost use Rattle.std.specs.Prelude.{◌≡◌, [], length, MatchOption};
 ghost use Rattle.names.specs.Names.{class};
 ghost use Rattle.image.specs.Promises.{entry_in, FirstEntry};
 ghost use Rattle.image.specs.Reading.{listed};
-ghost use Rattle.std.specs.Iterator.{at_most};
+ghost use Rattle.std.specs.Iterator.{at_most, YieldsFirstBy};
 
-use crate::field::{Record, record_length};
+use crate::field::Record;
 use crate::read::read_record;
 
 /// The records of an image from its front on, up to where no sound record follows.
@@ -24,18 +24,14 @@ impl<'a> Records<'a> {
 impl<'a> Iterator for Records<'a> {
     type Item = Record<'a>;
 
-    ghost next_gives = { λ records r after. MatchOption r ((listed class records.rest.now ≡ []) × (after ≡ records)) (λ record'. FirstEntry class records.rest.now (entry_in record') after.rest.now) };
+    ghost next_gives = { YieldsFirstBy entry_in (λ records. listed class records.rest.now) };
 
     ghost remaining = { λ records. at_most (length records.rest.now) };
 
     fn next(&mut self) -> Option<Record<'a>> {
-        match split_record(self.rest) {
-            Some((record, rest)) => {
-                self.rest = rest;
-                Some(record)
-            }
-            None => None,
-        }
+        let (record, rest) = split_record(self.rest)?;
+        self.rest = rest;
+        Some(record)
     }
 }
 
@@ -44,7 +40,7 @@ fn split_record<'a>(bytes: &'a [u8]) -> Option<(Record<'a>, &'a [u8])>
     ensures { MatchOption result (listed class bytes.now ≡ []) (λ split. FirstEntry class bytes.now (entry_in split.0) split.1.now) }
 {
     match read_record(bytes, 0) {
-        Ok(record) => Some((record, &bytes[record_length(record.name)..])),
+        Ok(record) => Some((record, &bytes[record.length()..])),
         Err(_) => None,
     }
 }

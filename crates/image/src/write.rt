@@ -1,6 +1,8 @@
 ghost use Rattle.std.specs.Prelude.{◌≡◌, ◌+◌, ◌-◌, ◌<◌, ◌≤◌, ◌++◌, length, drop, replicate};
-ghost use Rattle.store.specs.Entries.{entry_of};
-ghost use Rattle.image.specs.Format.{field, record_bytes};
+ghost use Rattle.image.specs.Format.{field, record_bytes, weight};
+ghost use Rattle.image.specs.Promises.{entry_in};
+
+use crate::field::Record;
 
 /// Moves what stands behind the first `gap` bytes to the front, and makes the bytes set free zero.
 pub(crate) fn close_up(part: &mut [u8], gap: usize)
@@ -28,15 +30,16 @@ pub(crate) fn write_field(part: &mut [u8], tag: u8, content: &[u8])
     part[3..].copy_from_slice(content);
 }
 
-/// Writes the record of an entry over the whole of `part`.
-pub(crate) fn write_record(part: &mut [u8], partition: u16, name: &[u8], number: u64)
-    requires { (length part.old ≡ 19 + length name.now) × (length name.now < 65536) }
-    ensures { part.new ≡ record_bytes (entry_of partition name.now number) }
+/// Writes a record over the whole of `part`.
+pub(crate) fn write_record(part: &mut [u8], added: &Record)
+    requires { (length part.old ≡ weight (length added.now.name.now)) × (length added.now.name.now < 65536) }
+    ensures { part.new ≡ record_bytes (entry_in added.now) }
 {
-    let len = name.len();
-    write_field(&mut part[0..5], 1, &partition.to_be_bytes());
-    write_field(&mut part[5..8 + len], 2, name);
-    write_field(&mut part[8 + len..], 3, &number.to_be_bytes());
+    let (first, others) = part.split_at_mut(5);
+    let (second, third) = others.split_at_mut(3 + added.name.len());
+    write_field(first, 1, &added.partition.to_be_bytes());
+    write_field(second, 2, added.name);
+    write_field(third, 3, &added.number.to_be_bytes());
 }
 
 /// Writes a name, and zeros behind it.

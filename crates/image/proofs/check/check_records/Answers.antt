@@ -31,7 +31,7 @@ loop-at-preserved c =
     let e = entry_in c.in_ok-record.record in
     let read = c.in_ok-record.ensures in
     let more = check_more bs at c.loop-at.invariant (goes_on bs at (omega arith) (λ z. omega arith)) (omega arith) read.0 e read.1 (λ i. let f = c.type_inv.image i in omega arith) (sym c.if-has_before.ensures) in
-    subst (λ w. Checking bs (at + w)) (sym c.record_length-at.ensures) more
+    subst (λ w. Checking bs (at + w)) (sym c.length-at.ensures) more
 
 pub returns : goal.returns
 returns c =

@@ -8,12 +8,12 @@ use Rattle.image.proofs.records.split_record.Goals as goal
 pub slice_bounds-result-count : goal.slice_bounds-result-count
 slice_bounds-result-count c =
     let read = c.in-Ok.ensures in
-    omega (arith, c.record_length.ensures, (first_entry c.args.bytes.now (entry_in c.in-Ok.record) 0 read.0 read.1).2)
+    omega (arith, c.length.ensures, (first_entry c.args.bytes.now (entry_in c.in-Ok.record) 0 read.0 read.1).2)
 
 pub slice_bounds-result-start : goal.slice_bounds-result-start
 slice_bounds-result-start c =
     let read = c.in-Ok.ensures in
-    let fits : c.record_length.result ≤ length c.args.bytes.now = omega (arith, c.record_length.ensures, (first_entry c.args.bytes.now (entry_in c.in-Ok.record) 0 read.0 read.1).2) in
+    let fits : c.length.result ≤ length c.args.bytes.now = omega (arith, c.length.ensures, (first_entry c.args.bytes.now (entry_in c.in-Ok.record) 0 read.0 read.1).2) in
     search (rules, fits)
 
 pub returns-in-Ok : goal.returns-in-Ok
@@ -21,4 +21,4 @@ returns-in-Ok c =
     let bs = c.args.bytes.now in
     let read = c.in-Ok.ensures in
     let e = entry_in c.in-Ok.record in
-    subst (FirstEntry class bs e) (sym (take_rest bs c.record_length.result ∙ ap (λ k. drop k bs) c.record_length.ensures)) (first_entry bs e 0 read.0 read.1)
+    subst (FirstEntry class bs e) (sym (take_rest bs c.length.result ∙ ap (λ k. drop k bs) c.length.ensures)) (first_entry bs e 0 read.0 read.1)

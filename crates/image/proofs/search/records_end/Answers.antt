@@ -1,17 +1,21 @@
-use Rattle.std.proofs.Common.{length, ap, ◌∙◌, arith}
-use Rattle.std.proofs.lemmas.List.{length-append}
+use Rattle.std.proofs.Common.{◌≡◌, ◌≤◌, ◌∙◌, length, rules, arith}
+use Rattle.std.proofs.lemmas.Iterator.{YieldsList-from_map}
+use Rattle.std.proofs.lemmas.Iterator.Consumers.{YieldsList-at, sum_by_from_yields_List, fits_by_from_yields_list}
 use Rattle.names.specs.Names.{class}
-use Rattle.image.specs.Format.{record_bytes, encoded}
-use Rattle.image.specs.Promises.{entry_in}
+use Rattle.image.specs.Format.{weight, encoded}
+use Rattle.image.specs.Lawful.{used_encoded}
 use Rattle.image.specs.Reading.{listed}
-use Rattle.image.specs.Lawful.{length_record}
+use Rattle.image.proofs.Listing.{records_yield, encoded_within}
 use Rattle.image.proofs.search.records_end.Goals as goal
 
-pub loop-record-preserved : goal.loop-record-preserved
-loop-record-preserved c =
-    let e = entry_in c.in-Some.record in
-    let first = c.in-Some.ensures.steps in
-    let inv = c.loop-record.invariant in
-    let rest = c.next.new.self.rest.now in
-    let further = ap (λ l. length (encoded l)) first.0 ∙ length-append (record_bytes e) (encoded (listed class rest)) in
-    (omega (arith, inv.0, further, length_record e, c.record_length-end.ensures), omega (arith, inv.1, first.2, c.record_length-end.ensures))
+pub sum-requires-clause-fits : goal.sum-requires-clause-fits
+sum-requires-clause-fits c =
+    let es = listed class c.args.image.now in
+    fits_by_from_yields_list (λ e. weight (length e.name)) es c.map.result _ (YieldsList-from_map _ (λ e. weight (length e.name)) (YieldsList-at c.map.ensures.source (records_yield c.of.result c.args.image.now c.of.ensures)) c.map.ensures.closure (λ x r q k. search rules))
+    (omega (arith, used_encoded es, encoded_within c.args.image.now))
+
+pub returns : goal.returns
+returns c =
+    let es = listed class c.args.image.now in
+    let total : c.sum.result ≡ length (encoded es) = sum_by_from_yields_List (λ e. weight (length e.name)) es c.map.result _ c.sum.ensures.ran (YieldsList-from_map _ (λ e. weight (length e.name)) (YieldsList-at c.map.ensures.source (records_yield c.of.result c.args.image.now c.of.ensures)) c.map.ensures.closure (λ x r q k. search rules)) ∙ used_encoded es in
+    record { value = total; bound = omega (arith, total, encoded_within c.args.image.now) }

@@ -7,6 +7,6 @@ returns c =
     let old = c.args.self.now.image.now in
     let at = c.args.at in
     record {
-      after = mid_put old c.write_record.new.part at (at + c.record_length.result) (omega arith) ∙ (λ i. take at old ++ (c.write_record.ensures i ++ drop (at + c.record_length.ensures i) old));
+      after = mid_put old c.write_record.new.part at (at + c.length.result) (omega arith) ∙ (λ i. take at old ++ (c.write_record.ensures i ++ drop (at + c.length.ensures i) old));
       same = refl;
     }

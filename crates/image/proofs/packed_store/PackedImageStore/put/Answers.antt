@@ -1,4 +1,4 @@
-use Rattle.std.proofs.Common.{◌≡◌, ℕ, ◌≤◌, true, false, List, [], ◌∷◌, ◌++◌, length, is_some, sym, refl, ap, ◌∙◌, subst, arith}
+use Rattle.std.proofs.Common.{◌≡◌, ℕ, ◌≤◌, false, List, [], ◌∷◌, ◌++◌, length, sym, refl, subst, arith}
 use Rattle.std.specs.List.Sorted.{IsPermutation}
 use Rattle.std.proofs.lemmas.Bool.{lt-ltb}
 use Rattle.names.specs.Names.{class}
@@ -8,18 +8,15 @@ use Rattle.store.proofs.Shuffles.{perm_push, shuffled_from}
 use Rattle.image.specs.Format.{encoded}
 use Rattle.image.specs.Held.{held, room_of, all_bytes}
 use Rattle.image.specs.Lawful.{used_encoded}
-use Rattle.image.proofs.Changes.{Changed, held_packed, encoded_fits, place_none, image_put}
-use Rattle.image.proofs.LawfulLists.{found_holds, lawful_push, packed_lawful}
+use Rattle.image.proofs.Changes.{Changed, held_packed, encoded_fits, image_put}
+use Rattle.image.proofs.LawfulLists.{found_is, found_not, lawful_push, packed_lawful}
 use Rattle.image.proofs.packed_store.PackedImageStore.put.Goals as goal
-use Rattle.image.proofs.packed_store.PackedImageStore.put.Goals.{Else-is_some, After-write}
+use Rattle.image.proofs.packed_store.PackedImageStore.put.Goals.{In-Err, After-write}
 
-pub returns-then-is_some : goal.returns-then-is_some
-returns-then-is_some c =
-    let s = c.args.self.now in
-    let p = c.args.partition in
-    let n = c.args.name.now in
-    let there : holds (held class s) p n ≡ true = sym (found_holds (held class s) p n) ∙ ap is_some (sym c.look-at.ensures.number) ∙ sym c.if-is_some.ensures in
-    record { gives = sym (put_present class (room_of s) (held class s) p n (sym c.if-not-is_key.ensures) there); order = refl; leaves = refl; keeps = refl; beyond = refl; lends = refl }
+pub returns-in_default-clause-gives : goal.returns-in_default-clause-gives
+returns-in_default-clause-gives c =
+    let es = held class c.args.self.now in
+    sym (put_present class (room_of c.args.self.now) es c.args.partition c.args.name.now (sym c.if-not-is_key.ensures) (found_is es _ _ _ c.in_default.ensures.2))
 
 -- no entry has the key, so the place is where the records end
 record End (at len : ℕ) (es : List Entry) (p : ℕ) (n : List ℕ) : Type 0 where
@@ -27,33 +24,31 @@ record End (at len : ℕ) (es : List Entry) (p : ℕ) (n : List ℕ) : Type 0 wh
   place : at ≡ length (encoded es)
   within : length (encoded es) ≤ len
 
-end : (c : goal.Else-is_some) → End c.look-at.result.0 c.args.self.now.len (held class c.args.self.now) c.args.partition c.args.name.now
+end : (c : goal.In-Err) → End c.in-Err.end c.args.self.now.len (held class c.args.self.now) c.args.partition c.args.name.now
 end c =
     let s = c.args.self.now in
     let es = held class s in
-    let p = c.args.partition in
-    let n = c.args.name.now in
-    let none : holds es p n ≡ false = sym (found_holds es p n) ∙ ap is_some (sym c.look-at.ensures.number) ∙ sym c.if-is_some.ensures in
-    record { fresh = none; place = c.look-at.ensures.place ∙ place_none es p n none; within = omega (arith, encoded_fits (all_bytes s) s.len s.within es (held_packed s)) }
+    record { fresh = found_not es _ _ c.in-Err.ensures.1; place = c.in-Err.ensures.0; within = omega (arith, encoded_fits (all_bytes s) s.len s.within es (held_packed s)) }
 
 pub overflow_sub-self : goal.overflow_sub-self
-overflow_sub-self c = let e = end (goal.at.overflow_sub-self c).Else-is_some in omega (arith, e.place, e.within)
+overflow_sub-self c = let e = end (goal.at.overflow_sub-self c).In-Err in omega (arith, e.place, e.within)
 
-pub returns-then-self-at : goal.returns-then-self-at
-returns-then-self-at c =
+pub returns-then-self-end-clause-gives : goal.returns-then-self-end-clause-gives
+returns-then-self-end-clause-gives c =
     let s = c.args.self.now in
-    let e = end (goal.at.returns-then-self-at c).Else-is_some in
-    record { gives = sym (put_full class (room_of s) (held class s) c.args.partition c.args.name.now (sym c.if-not-is_key.ensures) e.fresh (omega (arith, e.place, e.within, used_encoded (held class s), c.record_length.ensures, c.if-self-at.true))); order = refl; leaves = refl; keeps = refl; beyond = refl; lends = refl }
+    let es = held class s in
+    let e = end (goal.at.returns-then-self-end-clause-gives c).In-Err in
+    sym (put_full class (room_of s) es c.args.partition c.args.name.now (sym c.if-not-is_key.ensures) e.fresh (omega (arith, e.place, e.within, used_encoded es, c.length.ensures, c.if-self-end.true)))
 
 after : (c : goal.After-write) → Changed c.args.self.now.len (all_bytes c.args.self.now) c.write.new.self.image.now (held class c.args.self.now ++ entry_of c.args.partition c.args.name.now c.args.number ∷ [])
 after c =
     let s = c.args.self.now in
     let es = held class s in
     let new = entry_of c.args.partition c.args.name.now c.args.number in
-    let e = end (goal.at.invariant_of-self c).Else-is_some in
-    image_put (all_bytes s) s.len s.within es (held_packed s) new c.write.new.self.image.now c.look-at.result.0 e.place
+    let e = end (goal.at.invariant_of-self c).In-Err in
+    image_put (all_bytes s) s.len s.within es (held_packed s) new c.write.new.self.image.now c.in-Err.end e.place
     (lawful_push es new (record { key = sym c.if-not-is_key.ensures; number = lt-ltb _ _ c.ranges.number.fits; alone = e.fresh; rest = packed_lawful _ es (held_packed s) }))
-    (omega (arith, e.place, e.within, c.record_length.ensures, c.if-self-at.false))
+    (omega (arith, e.place, e.within, c.length.ensures, c.if-self-end.false))
     c.write.ensures.after
 
 pub invariant_of-self : goal.invariant_of-self
@@ -66,10 +61,10 @@ returns c =
     let s = c.args.self.now in
     let es = held class s in
     let new = entry_of c.args.partition c.args.name.now c.args.number in
-    let e = end (goal.at.returns c).Else-is_some in
+    let e = end (goal.at.returns c).In-Err in
     let k = after (goal.at.returns c).After-write in
     record {
-      gives = sym (put_added class (room_of s) es c.args.partition c.args.name.now (sym c.if-not-is_key.ensures) e.fresh (omega (arith, e.place, e.within, used_encoded es, c.record_length.ensures, c.if-self-at.false)));
+      gives = sym (put_added class (room_of s) es c.args.partition c.args.name.now (sym c.if-not-is_key.ensures) e.fresh (omega (arith, e.place, e.within, used_encoded es, c.length.ensures, c.if-self-end.false)));
       order = k.image.lists;
       leaves = subst (IsPermutation (new ∷ es)) (sym k.image.lists) (shuffled_from (perm_push new es));
       keeps = refl;
