@@ -1,17 +1,15 @@
 -- The bytes of a packed image before and after a change.
-use Rattle.std.proofs.Common.{◌≡◌, ℕ, suc, ◌+◌, ◌-◌, ◌≤◌, Bool, true, false, cond, ◌||◌, List, [], ◌∷◌, ◌++◌, length, take, drop, set, replicate, is_some, Some, None, Option, sym, refl, ap, ◌∙◌, subst, ⊎_elim, append_assoc, arith, take-add}
-use Rattle.std.specs.List.Sorted.{IsPermutation}
+use Rattle.std.proofs.Common.{◌≡◌, ℕ, suc, ◌+◌, ◌-◌, ◌≤◌, Bool, true, false, cond, ◌||◌, List, [], ◌∷◌, ◌++◌, length, take, drop, set, replicate, Some, Option, sym, refl, ap, ◌∙◌, subst, ⊎_elim, append_assoc, arith, take-add}
 use Rattle.std.specs.List.{list_all}
 use Rattle.std.proofs.lemmas.List.{length-drop, length-append, length-replicate, length-take-le, take_at, drop_at, drop-drop, drop-replicate, replicate-append-replicate, take-take, take_all, take-append-drop, drop-append-le, flat_map_more}
 use Rattle.std.proofs.lemmas.Slice.{between_is}
-use Rattle.std.proofs.lemmas.List.Sorted.{IsPermutation-refl}
 use Rattle.std.proofs.lemmas.Bool.{cond-true, cond-false, and_parts, or_parts, cases_Bool, false≢true}
 use Rattle.names.specs.Names.{class}
-use Rattle.store.specs.Calls.{number_in, TakeLeaves}
+use Rattle.store.specs.Calls.{number_in}
 use Rattle.store.specs.Entries.{Entry, entry_of, has_key, found, holds, without, index, is_key, sound}
 use Rattle.store.proofs.KeyFacts.{key_true}
 use Rattle.image.specs.Format.{weight, field, two_bytes, record_bytes, encoded, number_fits, Packed}
-use Rattle.image.specs.Held.{own_bytes, held, take_order, passed}
+use Rattle.image.specs.Held.{own_bytes, held, passed}
 use Rattle.image.specs.Lawful.{length_record}
 use Rattle.image.specs.Reading.{listed, place_of}
 use Rattle.image.specs.declared.packed.PackedImage.{PackedImage}

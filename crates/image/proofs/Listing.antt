@@ -1,15 +1,14 @@
 -- The entries that are listed of bytes, record by record.
 use Rattle.std.proofs.Common.{◌≡◌, ℕ, zero, suc, ◌+◌, ◌≤◌, false, cond, leb, List, [], ◌∷◌, length, drop, is_some, Some, None, sym, refl, ap, ◌∙◌, ⊎_elim, arith}
-use Rattle.std.specs.Iterator.{YieldsFirstBy}
 use Rattle.std.proofs.lemmas.Iterator.{YieldsList}
-use Rattle.std.proofs.lemmas.Iterator.Consumers.{YieldsList-from_first}
+use Rattle.std.proofs.lemmas.Iterator.Consumers.{YieldsList-from_shown, YieldsList-at}
 use Rattle.std.proofs.lemmas.List.{length-drop, length-append}
 use Rattle.std.proofs.lemmas.Bool.{and_left, lt-leb, eqb-true}
 use Rattle.names.specs.Names.{class}
 use Rattle.store.specs.Entries.{Entry}
 use Rattle.image.specs.Format.{weight, record_bytes, encoded}
 use Rattle.image.specs.Lawful.{length_record}
-use Rattle.image.specs.Promises.{entry_in, FirstEntry}
+use Rattle.image.specs.Promises.{entry_in, FirstEntry, entries_left, StepsOver}
 use Rattle.image.specs.Reading.{content_length, has_tag, record_fault, read_entry, name_field, number_field, next_record, listed_by, listed}
 use Rattle.image.specs.declared.fault.RecordFault.TheVariants.{Tag}
 use Rattle.image.specs.declared.records.Records.{Records}
@@ -83,5 +82,7 @@ pub encoded_within : (bs : List ℕ) → length (encoded (listed class bs)) ≤ 
 encoded_within bs = encoded_by (length bs) bs
 
 -- what the records of an image yield
-pub records_yield : (records : Records) (image : List ℕ) → records.rest.now ≡ image → YieldsList (YieldsFirstBy entry_in (λ (r : Records). listed class r.rest.now)) entry_in records (listed class image)
-records_yield records image h = YieldsList-from_first entry_in (λ (r : Records). listed class r.rest.now) (listed class image) (ap (listed class) h)
+pub records_yield : (records : Records) (image : List ℕ) → records.rest.now ≡ image → YieldsList StepsOver entry_in records (listed class image)
+records_yield records image h =
+    YieldsList-at {t = record { rest = record records.rest { now = image } }} (λ i. record { rest = record records.rest { now = h i } })
+    (YieldsList-from_shown StepsOver entry_in entries_left (λ s t g. ap length g.0.0) (λ s x t g. g.0) (record { rest = record records.rest { now = image } }))

@@ -1,5 +1,5 @@
 -- What the writers leave in a slice of which they write a part.
-use Rattle.std.proofs.Common.{◌≡◌, ℕ, ◌+◌, ◌-◌, ◌<◌, ◌≤◌, List, [], ◌∷◌, ◌++◌, length, get_or, take, drop, set, replicate, sym, refl, ap, ◌∙◌, ⊎_elim, append_assoc, arith}
+use Rattle.std.proofs.Common.{◌≡◌, ℕ, ◌+◌, ◌-◌, ◌<◌, ◌≤◌, List, [], ◌∷◌, ◌++◌, length, get_or, take, drop, set, replicate, sym, refl, ap, ◌∙◌, ⊎_elim, arith}
 use borrow.Rule.Slice.PartMut.{put_mid}
 use Rattle.std.proofs.lemmas.List.{length-take-le, drop_at, length-drop, length-append, length-replicate, ext_get_or, get_or_append_left, get_or-append_right, get_or-drop, get_or-replicate, drop_all, append-nil, take_at, drop-drop}
 use Rattle.std.proofs.lemmas.Slice.{between_is}

@@ -11,7 +11,7 @@ use Rattle.image.specs.declared.packed.PackedImage.{PackedImage}
 
 -- all of the caller's bytes
 abbrev pub all_bytes : PackedImage → List ℕ
-all_bytes s = s.bytes.image.now
+all_bytes s = s.image.now
 
 -- the bytes that the store lies in
 abbrev pub own_bytes : PackedImage → List ℕ

@@ -27,4 +27,4 @@ pub within : (s : PackedImage) → used (room_of s).weight (held class s) ≤ (r
 within s =
     let es = held class s in
     let l = ap length s.shape ∙ length-append (encoded es) (replicate {A = ℕ} (s.len - length (encoded es)) 0) in
-    omega (arith, used_encoded es, l, length-take-le s.len s.bytes.image.now s.within)
+    omega (arith, used_encoded es, l, length-take-le s.len s.image.now s.within)

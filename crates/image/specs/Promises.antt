@@ -1,5 +1,7 @@
 -- What the readers of fields and records promise of their answers, by case.
-use Rattle.std.specs.Prelude.{◌≡◌, ℕ, ◌+◌, true, false, List, ◌∷◌, length, drop, Some, None, Ok, Err, Option, Result, slice_index}
+use Rattle.std.specs.Prelude.{◌≡◌, ℕ, ◌+◌, true, false, List, ◌∷◌, length, drop, Some, None, MatchOption, Ok, Err, Option, Result, slice_index}
+use Rattle.std.specs.Iterator.{YieldsFirstBy}
+use Rattle.names.specs.Names.{class}
 use Rattle.names.specs.declared.byte_class.ByteClass.{ByteClass}
 use Rattle.store.specs.Entries.{Entry, found}
 use Rattle.image.specs.Format.{weight, encoded}
@@ -10,6 +12,7 @@ use Rattle.image.specs.declared.fault.RecordFault.TheVariants.{Tag}
 use Rattle.image.specs.declared.field.Field.{Field}
 use Rattle.image.specs.declared.field.Field.TheVariants.{Partition, Name, Number}
 use Rattle.image.specs.declared.field.Record.{Record}
+use Rattle.image.specs.declared.records.Records.{Records}
 use Rattle.image.specs.declared.search.Placed.{Placed}
 
 -- the field that was read at the front of bs
@@ -50,6 +53,15 @@ Tells (Err f) o = o ≡ Some f
 -- e is the first entry that is listed of bs, and rest is what follows its record
 abbrev pub FirstEntry : (ℕ → ByteClass) → List ℕ → Entry → List ℕ → Type 0
 FirstEntry cls bs e rest = (listed cls bs ≡ e ∷ listed cls rest) × (rest ≡ drop (weight (length e.name)) bs) × (length bs ≡ weight (length e.name) + length rest)
+
+-- the entries that records have left
+abbrev pub entries_left : Records → List Entry
+entries_left records = listed class records.rest.now
+
+-- a step over records yields the first of the entries that they have left, and passes its record; where none is left, they stay as they were
+abbrev pub StepsOver : Records → Option Record → Records → Type 0
+StepsOver records r after =
+    YieldsFirstBy entry_in entries_left records r after × MatchOption r (after ≡ records) (λ first. FirstEntry class records.rest.now (entry_in first) after.rest.now)
 
 -- the record of an entry, or none where there is none
 abbrev pub Shows : Option Record → Option Entry → Type 0

@@ -1,7 +1,6 @@
 // The packed image: a store in the caller's buffer, as records one after the other.
 #![tactic(auto)]
 
-mod bytes;
 mod cause;
 mod check;
 mod fault;

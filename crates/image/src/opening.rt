@@ -8,7 +8,6 @@ ghost use Rattle.image.specs.Reading.{listed};
 ghost use Rattle.image.specs.Refusals.{image_answer, image_refused, accepted};
 ghost use Rattle.image.specs.Theorems.{Checked};
 
-use crate::bytes::Bytes;
 use crate::check::check_records;
 use crate::packed::PackedImage;
 use crate::refusal::ImageRefusal;
@@ -32,26 +31,22 @@ impl<'a> PackedImage<'a> {
     /// The store over a buffer. Over one that `check` refuses it is empty, has capacity 0, and touches nothing.
     pub fn open(image: &'a mut [u8]) -> PackedImage<'a>
         ensures bytes { all_bytes result ≡ image.old }
-        ensures lends { result.bytes.image.ghost_name ≡ image.entry.ghost_name }
+        ensures lends { result.image.ghost_name ≡ image.entry.ghost_name }
         ensures entries { held class result ≡ (if accepted class image.old then listed class image.old else []) }
         ensures packed { accepted class image.old ≡ true → Packed class image.old (held class result) }
         ensures room { room_of result ≡ image_room (if accepted class image.old then length image.old else 0) }
     {
         let len = capacity(image);
-        PackedImage {
-            bytes: Bytes { image },
-            len,
-        }
+        PackedImage { image, len }
     }
 
     /// The caller's bytes again: in the store's part the records of its entries and then zeros.
     pub fn into_bytes(self) -> &'a mut [u8]
         ensures bytes { result.now ≡ all_bytes self.entry }
-        ensures lends { result.ghost_name ≡ self.entry.bytes.image.ghost_name }
+        ensures lends { result.ghost_name ≡ self.entry.image.ghost_name }
         ensures packed { Packed class (take (room_of self.entry).capacity result.now) (held class self.entry) }
     {
-        let PackedImage { bytes, len: _ } = self;
-        let Bytes { image } = bytes;
+        let PackedImage { image, len: _ } = self;
         image
     }
 }

@@ -11,7 +11,7 @@ ghost use Rattle.image.specs.Reading.{listed};
 use crate::field::Record;
 use crate::packed::PackedImage;
 use crate::search::{Placed, count_inside, nth_inside, records_end, seek};
-use crate::write::write_name;
+use crate::write::{close_up, write_field, write_name, write_record};
 use store::{LAST_PARTITION, ListedEntry, MoveError, PutError, Store, is_key};
 
 impl PackedImage<'_> {
@@ -19,7 +19,7 @@ impl PackedImage<'_> {
     fn own_bytes(&self) -> &[u8]
         ensures { result.now ≡ own_bytes self.now }
     {
-        &self.bytes.image[..self.len]
+        &self.image[..self.len]
     }
 
     /// The record of the entry with this key, or where the records end.
@@ -62,7 +62,7 @@ impl Store for PackedImage<'_> {
         ensures leaves { PutLeaves result (held class self.old) (entry_of partition name.now number) (held class self.new) }
         ensures keeps { room_of self.new ≡ room_of self.old }
         ensures beyond { Beyond self.old self.new }
-        ensures lends { self.new.bytes.image.ghost_name ≡ self.old.bytes.image.ghost_name }
+        ensures lends { self.new.image.ghost_name ≡ self.old.image.ghost_name }
     {
         if !is_key(partition, name) {
             return Err(PutError::BadKey);
@@ -75,10 +75,11 @@ impl Store for PackedImage<'_> {
             name,
             number,
         };
-        if self.len - end < record.length() {
+        let length = record.length();
+        if self.len - end < length {
             return Err(PutError::Full);
         }
-        self.bytes.write(end, &record);
+        write_record(&mut self.image[end..end + length], &record);
         Ok(())
     }
 
@@ -88,7 +89,7 @@ impl Store for PackedImage<'_> {
         ensures leaves { TakeLeaves result (held class self.old) partition name.now (held class self.new) }
         ensures keeps { room_of self.new ≡ room_of self.old }
         ensures beyond { Beyond self.old self.new }
-        ensures lends { self.new.bytes.image.ghost_name ≡ self.old.bytes.image.ghost_name }
+        ensures lends { self.new.image.ghost_name ≡ self.old.image.ghost_name }
     {
         let Ok(Placed { place, record }) = self.look(partition, name) else {
             return None;
@@ -96,7 +97,7 @@ impl Store for PackedImage<'_> {
         let gap = record.length();
         let number = record.number;
         let end = self.end_from(place);
-        self.bytes.remove(place, end, gap);
+        close_up(&mut self.image[place..end], gap);
         Some(number)
     }
 
@@ -106,7 +107,7 @@ impl Store for PackedImage<'_> {
         ensures leaves { MoveLeaves result (held class self.old) from to name.now (held class self.new) }
         ensures keeps { room_of self.new ≡ room_of self.old }
         ensures beyond { Beyond self.old self.new }
-        ensures lends { self.new.bytes.image.ghost_name ≡ self.old.bytes.image.ghost_name }
+        ensures lends { self.new.image.ghost_name ≡ self.old.image.ghost_name }
     {
         if to > LAST_PARTITION {
             return Err(MoveError::Absent);
@@ -117,7 +118,7 @@ impl Store for PackedImage<'_> {
         if self.look(to, name).is_ok() {
             return Err(MoveError::Present);
         }
-        self.bytes.repartition(place, to);
+        write_field(&mut self.image[place..place + 5], 1, &to.to_be_bytes());
         Ok(())
     }
 
@@ -138,9 +139,9 @@ impl Store for PackedImage<'_> {
         ensures empties { held class self.new ≡ [] }
         ensures keeps { room_of self.new ≡ room_of self.old }
         ensures beyond { Beyond self.old self.new }
-        ensures lends { self.new.bytes.image.ghost_name ≡ self.old.bytes.image.ghost_name }
+        ensures lends { self.new.image.ghost_name ≡ self.old.image.ghost_name }
     {
         let end = self.end_from(0);
-        self.bytes.wipe(end);
+        self.image[..end].fill(0);
     }
 }

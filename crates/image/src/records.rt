@@ -1,8 +1,8 @@
 ghost use Rattle.std.specs.Prelude.{◌≡◌, [], length, MatchOption};
 ghost use Rattle.names.specs.Names.{class};
-ghost use Rattle.image.specs.Promises.{entry_in, FirstEntry};
+ghost use Rattle.image.specs.Promises.{entry_in, FirstEntry, StepsOver};
 ghost use Rattle.image.specs.Reading.{listed};
-ghost use Rattle.std.specs.Iterator.{at_most, YieldsFirstBy};
+ghost use Rattle.std.specs.Iterator.{at_most};
 
 use crate::field::Record;
 use crate::read::read_record;
@@ -24,7 +24,7 @@ impl<'a> Records<'a> {
 impl<'a> Iterator for Records<'a> {
     type Item = Record<'a>;
 
-    ghost next_gives = { YieldsFirstBy entry_in (λ records. listed class records.rest.now) };
+    ghost next_gives = { StepsOver };
 
     ghost remaining = { λ records. at_most (length records.rest.now) };
 

@@ -1,4 +1,5 @@
-use Rattle.std.proofs.Common.{◌≡◌, true, false, ◌∷◌, set, sym, refl, ap, ◌∙◌, subst, arith, rules, tests}
+use Rattle.std.proofs.Common.{◌≡◌, ◌+◌, ◌-◌, ◌/◌, ◌%◌, ◌≤◌, true, false, [], ◌∷◌, ◌++◌, take, drop, set, sym, refl, ap, ◌∙◌, subst, arith}
+use borrow.Rule.Slice.PartMut.{put_mid}
 use Rattle.std.specs.List.Sorted.{IsPermutation}
 use Rattle.names.specs.Names.{class}
 use Rattle.store.specs.Entries.{holds, index, without, entry_of}
@@ -8,8 +9,10 @@ use Rattle.store.proofs.SoundFacts.{holds_key, key_other}
 use Rattle.image.specs.Held.{held, all_bytes, passed}
 use Rattle.image.proofs.Changes.{Changed, held_packed, encoded_fits, place_fits, image_passed}
 use Rattle.image.proofs.LawfulLists.{found_is, found_not, sought_is, sought_not, index_in}
+use Rattle.image.specs.Format.{field}
+use Rattle.image.proofs.Written.{mid_put}
 use Rattle.image.proofs.packed_store.PackedImageStore.relocate.Goals as goal
-use Rattle.image.proofs.packed_store.PackedImageStore.relocate.Goals.{In-Ok, Else-is_ok, After-repartition}
+use Rattle.image.proofs.packed_store.PackedImageStore.relocate.Goals.{In-Ok, Else-is_ok, After-write_field}
 
 pub returns-in_default-clause-gives : goal.returns-in_default-clause-gives
 returns-in_default-clause-gives c =
@@ -27,25 +30,36 @@ returns-then-is_ok-clause-gives c =
 free : (c : goal.Else-is_ok) → holds (held class c.args.self.now) c.args.to c.args.name.now ≡ false
 free c = sought_not c.look-2.result (held class c.args.self.now) _ _ c.look-2.ensures (sym c.if-is_ok.ensures.value)
 
-pub repartition-requires : goal.repartition-requires
-repartition-requires c =
+room : (c : goal.In-Ok) → c.in-Ok.field-0.place + 5 ≤ c.args.self.now.len
+room c =
     let s = c.args.self.now in
     let es = held class s in
-    omega (arith, place_fits es c.args.from c.args.name.now (there (goal.at.repartition-requires c).In-Ok), encoded_fits (all_bytes s) s.len s.within es (held_packed s), c.in-Ok.ensures.0, s.within)
+    omega (arith, place_fits es c.args.from c.args.name.now (there c), encoded_fits (all_bytes s) s.len s.within es (held_packed s), c.in-Ok.ensures.0)
 
-after : (c : goal.After-repartition) → Changed c.args.self.now.len (all_bytes c.args.self.now) c.repartition.new.self.image.now (set (held class c.args.self.now) (index (held class c.args.self.now) c.args.from c.args.name.now) (passed (held class c.args.self.now) c.args.from c.args.to c.args.name.now))
+pub overflow_add-place : goal.overflow_add-place
+overflow_add-place c = omega (arith, room (goal.at.overflow_add-place c).In-Ok, c.args.self.now.few)
+
+pub slice_bounds-write_field-end : goal.slice_bounds-write_field-end
+slice_bounds-write_field-end c = omega (arith, room (goal.at.slice_bounds-write_field-end c).In-Ok, c.args.self.now.within)
+
+after : (c : goal.After-write_field) → Changed c.args.self.now.len (all_bytes c.args.self.now) (put_mid c.in-Ok.field-0.place (c.in-Ok.field-0.place + 5 - c.in-Ok.field-0.place) (all_bytes c.args.self.now) c.write_field.new.part) (set (held class c.args.self.now) (index (held class c.args.self.now) c.args.from c.args.name.now) (passed (held class c.args.self.now) c.args.from c.args.to c.args.name.now))
 after c =
     let s = c.args.self.now in
     let es = held class s in
+    let image = all_bytes s in
     let p = c.args.from in
+    let q = c.args.to in
     let n = c.args.name.now in
-    let t = there (goal.at.invariant_of-self c).In-Ok in
-    image_passed (all_bytes s) s.len s.within es (held_packed s) p c.args.to n c.repartition.new.self.image.now c.in-Ok.field-0.place c.in-Ok.ensures.0 t (free (goal.at.invariant_of-self c).Else-is_ok)
-    (key_other class p c.args.to n (holds_key class es p n s.keys t) (omega arith)) c.repartition.ensures.after
+    let at = c.in-Ok.field-0.place in
+    let t = found_is es p n _ c.in-Ok.ensures.2 in
+    let top : q / 256 % 256 ≡ q / 256 = omega arith in
+    image_passed image s.len s.within es (held_packed s) p q n _ at c.in-Ok.ensures.0 t (sought_not c.look-2.result es _ _ c.look-2.ensures (sym c.if-is_ok.ensures.value))
+    (key_other class p q n (holds_key class es p n s.keys t) (omega arith))
+    (mid_put image c.write_field.new.part at (at + 5) (omega arith) ∙ ap (λ l. take at image ++ (l ++ drop (at + 5) image)) (c.write_field.ensures ∙ ap (field 1) (c.to_be_bytes.ensures ∙ ap (λ t. t ∷ q % 256 ∷ []) top)))
 
 pub invariant_of-self : goal.invariant_of-self
 invariant_of-self c =
-    let k = (after c).image in
+    let k = (after (goal.at.invariant_of-self c).After-write_field).image in
     record { within = k.within; few = c.args.self.now.few; shape = k.shape; keys = k.keys; numbers = k.numbers }
 
 pub returns : goal.returns
@@ -55,7 +69,7 @@ returns c =
     let q = c.args.to in
     let n = c.args.name.now in
     let t = there (goal.at.returns c).In-Ok in
-    let k = after (goal.at.returns c).After-repartition in
+    let k = after (goal.at.returns c).After-write_field in
     let new = passed es p q n in
     record {
       gives = sym (move_moved es p q n t (omega arith) (free (goal.at.returns c).Else-is_ok));
@@ -63,5 +77,5 @@ returns c =
       leaves = subst (IsPermutation (new ∷ without es p n)) (sym k.image.lists) (leaves_set es p n (entry_of p n 0) (index_in es p n t) new);
       keeps = refl;
       beyond = k.beyond;
-      lends = c.repartition.ensures.same;
+      lends = refl;
     }
