@@ -1,12 +1,15 @@
 -- One field: its checks, and what a field without a fault has.
-use Rattle.std.proofs.Common.{◌≡◌, ℕ, ◌+◌, ◌-◌, ◌≤◌, ◌⊎◌, inl, inr, Bool, true, false, cond, eqb, leb, List, length, get_or, take, drop, Some, None, Option, refl, arith}
-use native.Mathlib.Nat.{sub-zero}
-use Rattle.std.specs.Option.{option_map}
-use Rattle.std.proofs.lemmas.List.{take_rest, length-take-le, length-drop}
-use Rattle.std.proofs.lemmas.Bool.{le-leb, leb-true, eq-eqb, ne_eqb, eqb-true, and_parts}
-use Rattle.names.specs.Names.{class, is_short}
+use Rattle.std.proofs.Common.{◌≡◌, ℕ, ◌+◌, ◌≤◌, ◌⊎◌, inl, inr, Bool, true, false, cond, eqb, leb, List, length, get_or, drop, Some, None, Option, refl, arith}
+use Rattle.std.specs.Option.{option_map, ok_or, MatchOption}
+use Rattle.std.proofs.lemmas.List.{length-take-le, length-drop}
+use Rattle.std.proofs.lemmas.Bool.{le-leb, leb-true, eq-eqb, eqb-true, and_parts}
+use Rattle.names.specs.Names.{class}
 use Rattle.image.specs.Reading.{content_length, content, length_fits, content_fits, field_fault, has_tag, fault_at}
-use Rattle.image.specs.declared.fault.RecordFault.TheVariants.{Field, Tag}
+use Rattle.image.specs.Promises.{Says, ContentRead}
+use Rattle.image.specs.Tags.{tag_number}
+use Rattle.image.specs.declared.field.Field.{Field}
+use Rattle.image.specs.declared.tag.Tag.{Tag}
+use Rattle.image.specs.declared.fault.RecordFault.TheVariants.{Field as InField, Tag as NoTag}
 use Rattle.image.specs.declared.fault.FieldFault.TheVariants.{NoLength, Length, NoContent, Content}
 
 pub some_none : {X : Type 0} (x : X) → Some x ≡ None → ⊥
@@ -24,22 +27,17 @@ pub mapped_none : {X Y : Type 0} (f : X → Y) (o : Option X) → option_map f o
 mapped_none f None h = refl
 mapped_none f (Some x) h = absurd (some_none _ h)
 
--- `&rest[0..n]` as the checker reads it, where rest is what follows the three bytes
-pub content_part : (bs : List ℕ) (n : ℕ) → take (n - 0) (take (length bs - 3) (drop 3 bs)) ≡ take n (drop 3 bs)
-content_part bs n = rw (take_rest bs 3, sub-zero)
-
-pub content_name : (t : ℕ) (c : List ℕ) → t ≡ 2 → content_fits class t c ≡ is_short class c
-content_name t c h = let x : eqb t 1 ≡ false = ne_eqb t 1 (λ e. omega arith) in let y : eqb t 2 ≡ true = eq-eqb t 2 h in rw (x, y)
-
-pub content_number : (t : ℕ) (c : List ℕ) → t ≡ 3 → content_fits class t c ≡ true
-content_number t c h = let x : eqb t 1 ≡ false = ne_eqb t 1 (λ e. omega arith) in let y : eqb t 2 ≡ false = ne_eqb t 2 (λ e. omega arith) in rw (x, y)
-
 module _ (t place : ℕ) (bs : List ℕ) (fits : length_fits t (content_length bs) ≡ true) (room : 3 + content_length bs ≤ length bs) where
   pub field_fine : content_fits class t (content bs) ≡ true → field_fault class t place bs ≡ None
   field_fine h = let a : leb 3 (length bs) ≡ true = le-leb 3 (length bs) (omega arith) in let r : leb (3 + content_length bs) (length bs) ≡ true = le-leb (3 + content_length bs) (length bs) room in rw (a, fits, r, h)
 
   pub field_content : content_fits class t (content bs) ≡ false → field_fault class t place bs ≡ Some (Content place)
   field_content h = let a : leb 3 (length bs) ≡ true = le-leb 3 (length bs) (omega arith) in let r : leb (3 + content_length bs) (length bs) ≡ true = le-leb (3 + content_length bs) (length bs) room in rw (a, fits, r, h)
+
+-- what was made of a content is what is read of the field
+pub content_read : (tag : Tag) (place : ℕ) (bs : List ℕ) (o : Option Field) → length_fits (tag_number tag) (content_length bs) ≡ true → 3 + content_length bs ≤ length bs → MatchOption o (content_fits class (tag_number tag) (content bs) ≡ false) (λ f. (content_fits class (tag_number tag) (content bs) ≡ true) × Says f tag (content bs)) → ContentRead class (ok_or o (Content place)) tag place bs
+content_read tag place bs None fits room h = field_content (tag_number tag) place bs fits room h
+content_read tag place bs (Some f) fits room h = (field_fine (tag_number tag) place bs fits room h.0, h.1)
 
 -- what a field without a fault has
 pub record Good (t : ℕ) (bs : List ℕ) : Type 0 where
@@ -50,8 +48,8 @@ pub record Good (t : ℕ) (bs : List ℕ) : Type 0 where
 
 pub good_from : (t place : ℕ) (bs : List ℕ) → fault_at class t place bs ≡ None → Good t bs
 good_from t place bs h =
-    let a = cond_none (has_tag t bs) (option_map Field (field_fault class t place bs)) (Tag place) h in
-    let b = cond_none (leb 3 (length bs)) _ (NoLength place) (mapped_none Field (field_fault class t place bs) a.1) in
+    let a = cond_none (has_tag t bs) (option_map InField (field_fault class t place bs)) (NoTag place) h in
+    let b = cond_none (leb 3 (length bs)) _ (NoLength place) (mapped_none InField (field_fault class t place bs) a.1) in
     let c = cond_none (length_fits t (content_length bs)) _ (Length place) b.1 in
     let d = cond_none (leb (3 + content_length bs) (length bs)) _ (NoContent place) c.1 in
     let e = cond_none (content_fits class t (content bs)) None (Content place) d.1 in

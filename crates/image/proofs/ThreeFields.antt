@@ -31,9 +31,6 @@ number_part image place n h =
 
 -- the three readings at `&image[place..]`, `&image[place + 5..]` and `&image[at..]`
 module _ (image : List ℕ) (place : ℕ) where
-  pub record_first : (f : RecordFault) → fault_at class 1 place (take (length image - place) (drop place image)) ≡ Some f → record_fault class place (drop place image) ≡ Some f
-  record_first f h = first_bad (drop place image) place f (subst (λ b. fault_at class 1 place b ≡ Some f) (take_rest image place) h)
-
   module _ (one : fault_at class 1 place (take (length image - place) (drop place image)) ≡ None) where
     one_fine : fault_at class 1 place (drop place image) ≡ None
     one_fine = subst (λ b. fault_at class 1 place b ≡ None) (take_rest image place) one

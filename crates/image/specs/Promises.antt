@@ -1,5 +1,5 @@
 -- What the readers of fields and records promise of their answers, by case.
-use Rattle.std.specs.Prelude.{◌≡◌, ℕ, ◌+◌, true, false, List, ◌∷◌, length, drop, Some, None, MatchOption, Ok, Err, Option, Result, slice_index}
+use Rattle.std.specs.Prelude.{◌≡◌, ℕ, ◌+◌, true, false, List, ◌∷◌, length, drop, Some, None, MatchOption, Ok, Err, Option, Result}
 use Rattle.std.specs.Iterator.{YieldsFirstBy}
 use Rattle.names.specs.Names.{class}
 use Rattle.names.specs.declared.byte_class.ByteClass.{ByteClass}
@@ -8,33 +8,36 @@ use Rattle.image.specs.Format.{weight, encoded}
 use Rattle.image.specs.Reading.{content, from_two, from_eight, field_fault, has_tag, fault_at, record_fault, read_entry, listed, place_of}
 use Rattle.image.specs.declared.fault.FieldFault.{FieldFault}
 use Rattle.image.specs.declared.fault.RecordFault.{RecordFault}
-use Rattle.image.specs.declared.fault.RecordFault.TheVariants.{Tag}
+use Rattle.image.specs.declared.fault.RecordFault.TheVariants.{Tag as NoTag}
 use Rattle.image.specs.declared.field.Field.{Field}
 use Rattle.image.specs.declared.field.Field.TheVariants.{Partition, Name, Number}
 use Rattle.image.specs.declared.field.Record.{Record}
 use Rattle.image.specs.declared.records.Records.{Records}
+use Rattle.image.specs.declared.tag.Tag.{Tag}
+use Rattle.image.specs.declared.tag.Tag.TheVariants.{Partition as InPartition, Name as InName, Number as InNumber}
+use Rattle.image.specs.Tags.{tag_number}
 use Rattle.image.specs.declared.search.Placed.{Placed}
 
--- the field that was read at the front of bs
-abbrev pub Says : Field → List ℕ → Type 0
-Says (Partition p) bs = (slice_index bs 0 ≡ 1) × (p ≡ from_two (content bs))
-Says (Name s) bs = (slice_index bs 0 ≡ 2) × (s.now ≡ content bs)
-Says (Number n) bs = (slice_index bs 0 ≡ 3) × (n ≡ from_eight (content bs))
+-- what the content of a field with this tag says
+abbrev pub Says : Field → Tag → List ℕ → Type 0
+Says (Partition p) tag c = (tag ≡ InPartition) × (p ≡ from_two c)
+Says (Name s) tag c = (tag ≡ InName) × (s.now ≡ c)
+Says (Number n) tag c = (tag ≡ InNumber) × (n ≡ from_eight c)
 
--- a field without a fault, or its fault
-abbrev pub FieldRead : (ℕ → ByteClass) → Result Field FieldFault → ℕ → List ℕ → Type 0
-FieldRead cls (Ok f) place bs = (field_fault cls (slice_index bs 0) place bs ≡ None) × Says f bs
-FieldRead cls (Err f) place bs = field_fault cls (slice_index bs 0) place bs ≡ Some f
+-- the field with this tag whose other checks pass, or the first fault of them
+abbrev pub ContentRead : (ℕ → ByteClass) → Result Field FieldFault → Tag → ℕ → List ℕ → Type 0
+ContentRead cls (Ok f) tag place bs = (field_fault cls (tag_number tag) place bs ≡ None) × Says f tag (content bs)
+ContentRead cls (Err f) tag place bs = field_fault cls (tag_number tag) place bs ≡ Some f
 
 -- a tag that stands there, or the fault
-abbrev pub TagRead : Result (Unit {0}) RecordFault → ℕ → ℕ → List ℕ → Type 0
-TagRead (Ok u) tag place bs = has_tag tag bs ≡ true
-TagRead (Err f) tag place bs = (has_tag tag bs ≡ false) × (f ≡ Tag place)
+abbrev pub TagRead : Result (Unit {0}) RecordFault → Tag → ℕ → List ℕ → Type 0
+TagRead (Ok u) tag place bs = has_tag (tag_number tag) bs ≡ true
+TagRead (Err f) tag place bs = (has_tag (tag_number tag) bs ≡ false) × (f ≡ NoTag place)
 
--- the value of a field with this tag without a fault, of which P holds, or its fault
-abbrev pub ValueRead : (ℕ → ByteClass) → {X : Type 0} → Result X RecordFault → ℕ → ℕ → List ℕ → (X → Type 0) → Type 0
-ValueRead cls (Ok x) tag place bs P = (fault_at cls tag place bs ≡ None) × P x
-ValueRead cls (Err f) tag place bs P = fault_at cls tag place bs ≡ Some f
+-- the field with this tag without a fault, or its fault
+abbrev pub FieldRead : (ℕ → ByteClass) → Result Field RecordFault → Tag → ℕ → List ℕ → Type 0
+FieldRead cls (Ok f) tag place bs = (fault_at cls (tag_number tag) place bs ≡ None) × Says f tag (content bs)
+FieldRead cls (Err f) tag place bs = fault_at cls (tag_number tag) place bs ≡ Some f
 
 -- the entry that a record says
 abbrev pub entry_in : Record → Entry

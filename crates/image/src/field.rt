@@ -3,8 +3,8 @@ ghost use Rattle.store.specs.Entries.{has_key};
 ghost use Rattle.image.specs.Format.{weight};
 ghost use Rattle.image.specs.Promises.{entry_in};
 
-/// A field of a record, by its tag 1, 2 or 3. A name lies in the image.
-#[derive(Clone, Copy)]
+/// A field of a record. A name lies in the image.
+#[derive(Clone, Copy, PartialEq, Eq, Debug)]
 pub(crate) enum Field<'a> {
     Partition(u16),
     Name(&'a [u8]),

@@ -13,6 +13,7 @@ mod read;
 mod records;
 mod refusal;
 mod search;
+mod tag;
 mod write;
 
 pub use cause::Cause;

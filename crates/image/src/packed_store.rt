@@ -11,6 +11,7 @@ ghost use Rattle.image.specs.Reading.{listed};
 use crate::field::Record;
 use crate::packed::PackedImage;
 use crate::search::{Placed, count_inside, nth_inside, records_end, seek};
+use crate::tag::Tag;
 use crate::write::{close_up, write_field, write_name, write_record};
 use store::{LAST_PARTITION, ListedEntry, MoveError, PutError, Store, is_key};
 
@@ -118,7 +119,11 @@ impl Store for PackedImage<'_> {
         if self.look(to, name).is_ok() {
             return Err(MoveError::Present);
         }
-        write_field(&mut self.image[place..place + 5], 1, &to.to_be_bytes());
+        write_field(
+            &mut self.image[place..place + 5],
+            Tag::Partition,
+            &to.to_be_bytes(),
+        );
         Ok(())
     }
 

@@ -1,8 +1,10 @@
 ghost use Rattle.std.specs.Prelude.{◌≡◌, ◌+◌, ◌-◌, ◌<◌, ◌≤◌, ◌++◌, length, drop, replicate};
 ghost use Rattle.image.specs.Format.{field, record_bytes, weight};
 ghost use Rattle.image.specs.Promises.{entry_in};
+ghost use Rattle.image.specs.Tags.{tag_number};
 
 use crate::field::Record;
+use crate::tag::Tag;
 
 /// Moves what stands behind the first `gap` bytes to the front, and makes the bytes set free zero.
 pub(crate) fn close_up(part: &mut [u8], gap: usize)
@@ -10,24 +12,19 @@ pub(crate) fn close_up(part: &mut [u8], gap: usize)
     ensures { part.new ≡ drop gap part.old ++ replicate gap 0 }
 {
     let keep = part.len() - gap;
-    for i in 0..keep {
-        part[i] = part[i + gap];
-    }
-    for i in keep..part.len() {
-        part[i] = 0;
-    }
+    part.copy_within(gap.., 0);
+    part[keep..].fill(0);
 }
 
 /// Writes a field over the whole of `part`.
-pub(crate) fn write_field(part: &mut [u8], tag: u8, content: &[u8])
+pub(crate) fn write_field(part: &mut [u8], tag: Tag, content: &[u8])
     requires { (length part.old ≡ 3 + length content.now) × (length content.now < 65536) }
-    ensures { part.new ≡ field tag content.now }
+    ensures { part.new ≡ field (tag_number tag) content.now }
 {
-    let len = content.len();
-    part[0] = tag;
-    part[1] = (len / 256) as u8;
-    part[2] = (len % 256) as u8;
-    part[3..].copy_from_slice(content);
+    let (front, back) = part.split_at_mut(3);
+    let [high, low] = (content.len() as u16).to_be_bytes();
+    front.copy_from_slice(&[tag as u8, high, low]);
+    back.copy_from_slice(content);
 }
 
 /// Writes a record over the whole of `part`.
@@ -37,9 +34,9 @@ pub(crate) fn write_record(part: &mut [u8], added: &Record)
 {
     let (first, others) = part.split_at_mut(5);
     let (second, third) = others.split_at_mut(3 + added.name.len());
-    write_field(first, 1, &added.partition.to_be_bytes());
-    write_field(second, 2, added.name);
-    write_field(third, 3, &added.number.to_be_bytes());
+    write_field(first, Tag::Partition, &added.partition.to_be_bytes());
+    write_field(second, Tag::Name, added.name);
+    write_field(third, Tag::Number, &added.number.to_be_bytes());
 }
 
 /// Writes a name, and zeros behind it.
@@ -47,7 +44,7 @@ pub(crate) fn write_name(out: &mut [u8; 32], name: &[u8])
     requires { length name.now ≤ 32 }
     ensures { out.new ≡ name.now ++ replicate (32 - length name.now) 0 }
 {
-    let len = name.len();
-    out[0..len].copy_from_slice(name);
-    out[len..32].fill(0);
+    let (front, back) = out.split_at_mut(name.len());
+    front.copy_from_slice(name);
+    back.fill(0);
 }
