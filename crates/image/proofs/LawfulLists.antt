@@ -105,7 +105,7 @@ found_not es p n h = sym (found_holds es p n) ∙ ap is_some h
 
 -- what a search answered, by whether it is `Ok`
 pub sought_is : (r : Result Placed ℕ) (es : List Entry) (p : ℕ) (n : List ℕ) → Sought r es p n → is_ok r ≡ true → holds es p n ≡ true
-sought_is (Ok s) es p n h o = found_is es p n s.record.number h.2
+sought_is (Ok s) es p n h o = found_is es p n s.number h.2
 sought_is (Err end) es p n h o = absurd (false≢true o)
 
 pub sought_not : (r : Result Placed ℕ) (es : List Entry) (p : ℕ) (n : List ℕ) → Sought r es p n → is_ok r ≡ false → holds es p n ≡ false

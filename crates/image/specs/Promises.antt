@@ -71,7 +71,7 @@ abbrev pub Shows : Option Record → Option Entry → Type 0
 Shows None o = o ≡ None
 Shows (Some r) o = o ≡ Some (entry_in r)
 
--- the record of the entry under a key and where it begins, or where the records end
+-- where the record of the entry under a key stands, or where the records end
 abbrev pub Sought : Result Placed ℕ → List Entry → ℕ → List ℕ → Type 0
-Sought (Ok s) es p n = (s.place ≡ place_of es p n) × (s.record.name.now ≡ n) × (found es p n ≡ Some s.record.number)
+Sought (Ok s) es p n = (s.place ≡ place_of es p n) × (s.length ≡ weight (length n)) × (found es p n ≡ Some s.number)
 Sought (Err end) es p n = (end ≡ length (encoded es)) × (found es p n ≡ None)

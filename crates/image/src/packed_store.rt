@@ -24,7 +24,7 @@ impl PackedImage<'_> {
     }
 
     /// The record of the entry with this key, or where the records end.
-    fn look(&self, partition: u16, name: &[u8]) -> Result<Placed<'_>, usize>
+    fn look(&self, partition: u16, name: &[u8]) -> Result<Placed, usize>
         ensures { Sought result (held class self.now) partition name.now }
     {
         seek(self.own_bytes(), partition, name)
@@ -54,7 +54,7 @@ impl Store for PackedImage<'_> {
 
     fn find(&self, partition: u16, name: &[u8]) -> Option<u64> {
         let held = self.look(partition, name).ok()?;
-        Some(held.record.number)
+        Some(held.number)
     }
 
     fn put(&mut self, partition: u16, name: &[u8], number: u64) -> Result<(), PutError>
@@ -92,14 +92,12 @@ impl Store for PackedImage<'_> {
         ensures beyond { Beyond self.old self.new }
         ensures lends { self.new.image.ghost_name ≡ self.old.image.ghost_name }
     {
-        let Ok(Placed { place, record }) = self.look(partition, name) else {
+        let Ok(held) = self.look(partition, name) else {
             return None;
         };
-        let gap = record.length();
-        let number = record.number;
-        let end = self.end_from(place);
-        close_up(&mut self.image[place..end], gap);
-        Some(number)
+        let end = self.end_from(held.place);
+        close_up(&mut self.image[held.place..end], held.length);
+        Some(held.number)
     }
 
     fn relocate(&mut self, from: u16, to: u16, name: &[u8]) -> Result<(), MoveError>
@@ -113,14 +111,14 @@ impl Store for PackedImage<'_> {
         if to > LAST_PARTITION {
             return Err(MoveError::Absent);
         }
-        let Ok(Placed { place, .. }) = self.look(from, name) else {
+        let Ok(held) = self.look(from, name) else {
             return Err(MoveError::Absent);
         };
         if self.look(to, name).is_ok() {
             return Err(MoveError::Present);
         }
         write_field(
-            &mut self.image[place..place + 5],
+            &mut self.image[held.place..held.place + 5],
             Tag::Partition,
             &to.to_be_bytes(),
         );

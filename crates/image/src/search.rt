@@ -9,24 +9,30 @@ ghost use Rattle.image.specs.Reading.{listed};
 use crate::field::Record;
 use crate::records::Records;
 
-/// A record of an image, and where it begins.
+/// Where a record begins, how many bytes it has, and the number of its entry.
 #[derive(Clone, Copy)]
-pub(crate) struct Placed<'a> {
+pub(crate) struct Placed {
     pub(crate) place: usize,
-    pub(crate) record: Record<'a>,
+    pub(crate) length: usize,
+    pub(crate) number: u64,
 }
 
 /// The record of the entry with this key, or where the records end.
-pub(crate) fn seek<'a>(image: &'a [u8], partition: u16, name: &[u8]) -> Result<Placed<'a>, usize>
+pub(crate) fn seek(image: &[u8], partition: u16, name: &[u8]) -> Result<Placed, usize>
     ensures { Sought result (listed class image.now) partition name.now }
 {
     // Kept: the place adds up over the records passed, and is an answer too where none has the key, which a fold that breaks off would say the wrong way round.
     let mut place = 0;
     for record in Records::of(image) {
+        let length = record.length();
         if record.has_key(partition, name) {
-            return Ok(Placed { place, record });
+            return Ok(Placed {
+                place,
+                length,
+                number: record.number,
+            });
         }
-        place += record.length();
+        place += length;
     }
     Err(place)
 }

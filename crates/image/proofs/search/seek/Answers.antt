@@ -15,7 +15,7 @@ longer : (rest after : List ℕ) (e : Entry) → listed class rest ≡ e ∷ lis
 longer rest after e h = ap (λ l. length (encoded l)) h ∙ length-append (record_bytes e) (encoded (listed class after)) ∙ ap (λ k. k + length (encoded (listed class after))) (length_record e)
 
 pub overflow_add-place : goal.overflow_add-place
-overflow_add-place c = omega (arith, c.loop-record.invariant.end, longer c.loop-record.record-iterator.rest.now c.next.new.self.rest.now (entry_in c.in-Some.record) c.in-Some.ensures.steps.0, c.length-place.ensures, encoded_within c.args.image.now)
+overflow_add-place c = omega (arith, c.loop-record.invariant.end, longer c.loop-record.record-iterator.rest.now c.next.new.self.rest.now (entry_in c.in-Some.record) c.in-Some.ensures.steps.0, c.length-length.ensures, encoded_within c.args.image.now)
 
 pub loop-record-preserved : goal.loop-record-preserved
 loop-record-preserved c =
@@ -27,7 +27,7 @@ loop-record-preserved c =
     let other : has_key p n e ≡ false = sym c.if-has_key.ensures in
     let further : place_of (listed class c.loop-record.record-iterator.rest.now) p n ≡ weight (length e.name) + place_of (listed class c.next.new.self.rest.now) p n = ap (λ l. place_of l p n) first ∙ cond-false (has_key p n e) 0 _ other in
     record {
-      place = omega (arith, inv.place, further, c.length-place.ensures);
+      place = omega (arith, inv.place, further, c.length-length.ensures);
       number = sym (ap (λ l. found l p n) first ∙ cond-false (has_key p n e) (Some e.number) _ other) ∙ inv.number;
-      end = omega (arith, inv.end, longer c.loop-record.record-iterator.rest.now c.next.new.self.rest.now e first, c.length-place.ensures);
+      end = omega (arith, inv.end, longer c.loop-record.record-iterator.rest.now c.next.new.self.rest.now e first, c.length-length.ensures);
     }

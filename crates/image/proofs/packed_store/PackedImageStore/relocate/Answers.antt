@@ -30,19 +30,19 @@ returns-then-is_ok-clause-gives c =
 free : (c : goal.Else-is_ok) → holds (held class c.args.self.now) c.args.to c.args.name.now ≡ false
 free c = sought_not c.look-2.result (held class c.args.self.now) _ _ c.look-2.ensures (sym c.if-is_ok.ensures.value)
 
-room : (c : goal.In-Ok) → c.in-Ok.field-0.place + 5 ≤ c.args.self.now.len
+room : (c : goal.In-Ok) → c.in-Ok.held.place + 5 ≤ c.args.self.now.len
 room c =
     let s = c.args.self.now in
     let es = held class s in
     omega (arith, place_fits es c.args.from c.args.name.now (there c), encoded_fits (all_bytes s) s.len s.within es (held_packed s), c.in-Ok.ensures.0)
 
-pub overflow_add-place : goal.overflow_add-place
-overflow_add-place c = omega (arith, room (goal.at.overflow_add-place c).In-Ok, c.args.self.now.few)
+pub overflow_add-held : goal.overflow_add-held
+overflow_add-held c = omega (arith, room (goal.at.overflow_add-held c).In-Ok, c.args.self.now.few)
 
 pub slice_bounds-write_field-end : goal.slice_bounds-write_field-end
 slice_bounds-write_field-end c = omega (arith, room (goal.at.slice_bounds-write_field-end c).In-Ok, c.args.self.now.within)
 
-after : (c : goal.After-write_field) → Changed c.args.self.now.len (all_bytes c.args.self.now) (put_mid c.in-Ok.field-0.place (c.in-Ok.field-0.place + 5 - c.in-Ok.field-0.place) (all_bytes c.args.self.now) c.write_field.new.part) (set (held class c.args.self.now) (index (held class c.args.self.now) c.args.from c.args.name.now) (passed (held class c.args.self.now) c.args.from c.args.to c.args.name.now))
+after : (c : goal.After-write_field) → Changed c.args.self.now.len (all_bytes c.args.self.now) (put_mid c.in-Ok.held.place (c.in-Ok.held.place + 5 - c.in-Ok.held.place) (all_bytes c.args.self.now) c.write_field.new.part) (set (held class c.args.self.now) (index (held class c.args.self.now) c.args.from c.args.name.now) (passed (held class c.args.self.now) c.args.from c.args.to c.args.name.now))
 after c =
     let s = c.args.self.now in
     let es = held class s in
@@ -50,7 +50,7 @@ after c =
     let p = c.args.from in
     let q = c.args.to in
     let n = c.args.name.now in
-    let at = c.in-Ok.field-0.place in
+    let at = c.in-Ok.held.place in
     let t = found_is es p n _ c.in-Ok.ensures.2 in
     let top : q / 256 % 256 ≡ q / 256 = omega arith in
     image_passed image s.len s.within es (held_packed s) p q n _ at c.in-Ok.ensures.0 t (sought_not c.look-2.result es _ _ c.look-2.ensures (sym c.if-is_ok.ensures.value))
