@@ -1,7 +1,9 @@
 -- The walk from record to record that looks for the first fault.
-use Rattle.std.proofs.Common.{◌≡◌, ℕ, zero, suc, ◌+◌, ◌<◌, ◌≤◌, Bool, true, false, not, eqb, leb, List, [], ◌∷◌, ◌++◌, length, get_or, take, drop, is_some, Some, None, Ok, Err, sym, refl, ap, ◌∙◌, subst, add-zero, arith, take-add}
+use Rattle.std.proofs.Common.{◌≡◌, ℕ, zero, suc, ◌+◌, ◌<◌, ◌≤◌, Bool, true, false, not, eqb, leb, List, [], ◌∷◌, ◌++◌, length, get_or, take, drop, is_some, Some, None, Option, Ok, Err, sym, refl, ap, ◌∙◌, subst, add-zero, arith, take-add}
 use Rattle.std.proofs.lemmas.List.{length-drop, drop-drop, drop_all, append-nil, take_at, get_or-drop, flat_map_more}
 use Rattle.std.proofs.lemmas.Bool.{cond-true, cond-false, or_from, or_left, or_right, not_from_true, not_from_false, le-leb, lt-leb, eq-eqb, ne_eqb}
+use Rattle.std.specs.List.{position_from}
+use Rattle.std.specs.Option.{option_map}
 use Rattle.names.specs.Names.{class}
 use Rattle.store.specs.Entries.{Entry, found, holds}
 use Rattle.image.specs.Format.{weight, record_bytes, encoded}
@@ -11,7 +13,7 @@ use Rattle.image.specs.Refusals.{malformed, image_answer, fault_answer, image_re
 use Rattle.image.specs.Theorems.{Checked}
 use Rattle.image.specs.declared.fault.RecordFault.{RecordFault}
 use Rattle.image.specs.declared.fault.ImageFault.{ImageFault}
-use Rattle.image.specs.declared.fault.ImageFault.TheVariants.{Record, SecondEntry}
+use Rattle.image.specs.declared.fault.ImageFault.TheVariants.{Record, SecondEntry, NonZeroByte}
 use Rattle.image.specs.declared.refusal.ImageRefusal.{ImageRefusal}
 use Rattle.image.specs.declared.refusal.ImageRefusal.TheVariants.{TooLarge, Malformed}
 use Rattle.image.proofs.Fields.{some_none}
@@ -34,6 +36,14 @@ ends_long bs place h = or_left (not (leb 1 (length (drop place bs)))) _ (not_fro
 
 pub ends_zero : (bs : List ℕ) (place : ℕ) → get_or bs place 0 ≡ 0 → ended (drop place bs) ≡ true
 ends_zero bs place h = or_right _ (eqb (get_or (drop place bs) 0 0) 0) (eq-eqb (get_or (drop place bs) 0 0) 0 (first_byte bs place ∙ h))
+
+-- the first byte that is not zero, by its position
+non_zero_from : (place n : ℕ) (bs : List ℕ) → non_zero (place + n) bs ≡ option_map (λ i. NonZeroByte (place + i)) (position_from (λ b. not (eqb b 0)) n bs)
+non_zero_from place n [] = refl
+non_zero_from place n (b ∷ bs) = let i = non_zero_from place (n + 1) bs in grind (arith, i)
+
+pub non_zero_found : (place : ℕ) (bs : List ℕ) (r : Option ℕ) → position_from (λ b. not (eqb b 0)) 0 bs ≡ r → non_zero place bs ≡ option_map (λ i. NonZeroByte (place + i)) r
+non_zero_found place bs r h = ap (λ k. non_zero k bs) (sym (add-zero place)) ∙ non_zero_from place 0 bs ∙ ap (option_map (λ i. NonZeroByte (place + i))) h
 
 -- the bytes before a place are the records of the entries seen, and what is left has the fault
 pub record Checking (bs : List ℕ) (place : ℕ) : Type 0 where

@@ -12,6 +12,7 @@ use crate::search::seek;
 pub(crate) fn check_records(image: &[u8]) -> Result<(), ImageFault>
     ensures { Tells result (fault class image.now) }
 {
+    // Kept: each record begins where the one before ends, a fault is told with its place, and what stands before it is looked through.
     let mut at = 0;
     while at < image.len() && image[at] != 0 {
         let record = read_record(image, at)?;
@@ -36,10 +37,8 @@ fn check_zeros(image: &[u8], place: usize) -> Result<(), ImageFault>
     requires { place ≤ length image.now }
     ensures { Tells result (non_zero place (drop place image.now)) }
 {
-    for i in place..image.len() {
-        if image[i] != 0 {
-            return Err(ImageFault::NonZeroByte(i));
-        }
+    match image[place..].iter().position(|byte| *byte != 0) {
+        Some(zeros) => Err(ImageFault::NonZeroByte(place + zeros)),
+        None => Ok(()),
     }
-    Ok(())
 }

@@ -62,8 +62,5 @@ fn capacity(image: &[u8]) -> usize
     ensures entries { listed class (take result image.now) ≡ (if accepted class image.now then listed class image.now else []) }
     ensures packed { accepted class image.now ≡ true → Packed class image.now (listed class (take result image.now)) }
 {
-    match PackedImage::check(image) {
-        Ok(()) => image.len(),
-        Err(_) => 0,
-    }
+    PackedImage::check(image).map_or(0, |()| image.len())
 }
