@@ -6,7 +6,8 @@ use Rattle.names.specs.declared.byte_class.ByteClass.{ByteClass}
 use Rattle.store.specs.Entries.{Entry, holds, has_key}
 use Rattle.image.specs.Format.{weight}
 use Rattle.image.specs.declared.fault.FieldFault.{FieldFault}
-use Rattle.image.specs.declared.fault.FieldFault.TheVariants.{NoLength, Length, NoContent, Content}
+use Rattle.image.specs.declared.fault.FieldCheck.{FieldCheck}
+use Rattle.image.specs.declared.fault.FieldCheck.TheVariants.{NoLength, Length, NoContent, Content}
 use Rattle.image.specs.declared.fault.RecordFault.{RecordFault}
 use Rattle.image.specs.declared.fault.RecordFault.TheVariants.{Field, Tag}
 use Rattle.image.specs.declared.fault.ImageFault.{ImageFault}
@@ -37,14 +38,18 @@ length_fits tag n = cond (tag == 1) (n == 2) (cond (tag == 2) (nat_le 1 n && nat
 abbrev pub content_fits : (ℕ → ByteClass) → ℕ → List ℕ → Bool
 content_fits cls tag c = cond (tag == 1) (nat_le (from_two c) 511) (cond (tag == 2) (is_short cls c) true)
 
+-- a check that failed of the field whose tag stands at a place
+abbrev pub failed : FieldCheck → ℕ → FieldFault
+failed check place = record { check = check; place = place }
+
 -- the first of a field's checks that fails after its tag: the length bytes fit, the length, the content fits, the content
 abbrev pub field_fault : (ℕ → ByteClass) → ℕ → ℕ → List ℕ → Option FieldFault
 field_fault cls tag place bs =
     cond (nat_le 3 (length bs))
     (cond (length_fits tag (content_length bs))
-    (cond (nat_le (3 + content_length bs) (length bs)) (cond (content_fits cls tag (content bs)) None (Some (Content place))) (Some (NoContent place)))
-    (Some (Length place)))
-    (Some (NoLength place))
+    (cond (nat_le (3 + content_length bs) (length bs)) (cond (content_fits cls tag (content bs)) None (Some (failed Content place))) (Some (failed NoContent place)))
+    (Some (failed Length place)))
+    (Some (failed NoLength place))
 
 -- whether bs begins with this tag
 abbrev pub has_tag : ℕ → List ℕ → Bool

@@ -1,8 +1,10 @@
 -- Faults and refusals of images: their numbers, values and words.
-use Rattle.std.specs.Prelude.{ℕ, Bool, cond, List, length, Some, None, Ok, Err, codes, Option, Result, ◌==◌, nat_le}
+use Rattle.std.specs.Prelude.{ℕ, Bool, cond, List, ◌++◌, length, Some, None, Ok, Err, codes, Option, Result, ◌==◌, nat_le}
+use Rattle.std.specs.Fmt.{decimal}
 use Rattle.names.specs.declared.byte_class.ByteClass.{ByteClass}
 use Rattle.image.specs.Reading.{fault}
-use Rattle.image.specs.declared.fault.FieldFault.TheVariants.{NoLength, Length, NoContent, Content}
+use Rattle.image.specs.declared.fault.FieldCheck.{FieldCheck}
+use Rattle.image.specs.declared.fault.FieldCheck.TheVariants.{NoLength, Length, NoContent, Content}
 use Rattle.image.specs.declared.fault.RecordFault.TheVariants.{Field as InField, Tag}
 use Rattle.image.specs.declared.fault.ImageFault.{ImageFault}
 use Rattle.image.specs.declared.fault.ImageFault.TheVariants.{Record as InRecord, SecondEntry, NonZeroByte}
@@ -20,22 +22,23 @@ layer_of (InRecord (Tag place)) = RecordLayer
 layer_of (SecondEntry place) = ImageLayer
 layer_of (NonZeroByte place) = ImageLayer
 
+-- the cause that a field's check is
+abbrev pub check_cause : FieldCheck → Cause
+check_cause NoLength = LacksLength
+check_cause Length = BadLength
+check_cause NoContent = LacksContent
+check_cause Content = BadContent
+
 -- the check that failed
 abbrev pub cause_of : ImageFault → Cause
-cause_of (InRecord (InField (NoLength place))) = LacksLength
-cause_of (InRecord (InField (Length place))) = BadLength
-cause_of (InRecord (InField (NoContent place))) = LacksContent
-cause_of (InRecord (InField (Content place))) = BadContent
+cause_of (InRecord (InField f)) = check_cause f.check
 cause_of (InRecord (Tag place)) = BadTag
 cause_of (SecondEntry place) = Second
 cause_of (NonZeroByte place) = NonZero
 
 -- the place of a fault: the tag byte of its field, the first byte of the second entry, or the byte that is not zero
 abbrev pub fault_place : ImageFault → ℕ
-fault_place (InRecord (InField (NoLength place))) = place
-fault_place (InRecord (InField (Length place))) = place
-fault_place (InRecord (InField (NoContent place))) = place
-fault_place (InRecord (InField (Content place))) = place
+fault_place (InRecord (InField f)) = f.place
 fault_place (InRecord (Tag place)) = place
 fault_place (SecondEntry place) = place
 fault_place (NonZeroByte place) = place
@@ -70,10 +73,19 @@ cause_number BadContent = 5
 cause_number Second = 6
 cause_number NonZero = 7
 
+-- a fault in words: its layer, its cause and its place
+abbrev pub fault_words : ImageFault → List ℕ
+fault_words f = layer_words (layer_of f) ++ (codes ", " ++ (cause_words (cause_of f) ++ (codes ", at byte " ++ decimal (fault_place f))))
+
 -- the number of a refusal
 abbrev pub refusal_number : ImageRefusal → ℕ
 refusal_number TooLarge = 33
 refusal_number (Malformed f) = 34
+
+-- a refusal in words: its number, and the fault of a malformed image
+abbrev pub refusal_words : ImageRefusal → List ℕ
+refusal_words TooLarge = codes "refused " ++ decimal 33
+refusal_words (Malformed f) = codes "refused " ++ (decimal 34 ++ (codes ": " ++ fault_words f))
 
 -- a malformed image's numbers: 34, and the layer, the cause and the place of its fault
 abbrev pub malformed : ImageFault → ℕ × ℕ × ℕ × ℕ

@@ -1,18 +1,26 @@
-ghost use Rattle.std.specs.Prelude.{◌≡◌};
-ghost use Rattle.image.specs.Refusals.{layer_of, cause_of, fault_place};
+ghost use Rattle.std.specs.Prelude.{◌≡◌, Some};
+ghost use Rattle.image.specs.Refusals.{layer_of, check_cause, cause_of, fault_place, fault_words};
 ghost use Rattle.image.specs.declared.fault.RecordFault.{RecordFault};
 ghost use Rattle.image.specs.declared.fault.ImageFault.{ImageFault};
 
 use crate::cause::Cause;
 use crate::layer::Layer;
+use std::fmt;
 
-/// The check of a field behind its tag that failed, with the place of the tag.
+/// A check of a field behind its tag.
 #[derive(Clone, Copy, PartialEq, Eq, Debug)]
-pub enum FieldFault {
-    NoLength(usize),
-    Length(usize),
-    NoContent(usize),
-    Content(usize),
+pub enum FieldCheck {
+    NoLength,
+    Length,
+    NoContent,
+    Content,
+}
+
+/// The check of a field that failed, and the place of its tag.
+#[derive(Clone, Copy, PartialEq, Eq, Debug)]
+pub struct FieldFault {
+    pub check: FieldCheck,
+    pub place: usize,
 }
 
 /// What is wrong with a record: one of its fields, or the tag at a place.
@@ -47,10 +55,7 @@ impl ImageFault {
         ensures { result ≡ cause_of self }
     {
         match self {
-            ImageFault::Record(RecordFault::Field(FieldFault::NoLength(_))) => Cause::NoLength,
-            ImageFault::Record(RecordFault::Field(FieldFault::Length(_))) => Cause::Length,
-            ImageFault::Record(RecordFault::Field(FieldFault::NoContent(_))) => Cause::NoContent,
-            ImageFault::Record(RecordFault::Field(FieldFault::Content(_))) => Cause::Content,
+            ImageFault::Record(RecordFault::Field(fault)) => Cause::from(fault.check),
             ImageFault::Record(RecordFault::Tag(_)) => Cause::Tag,
             ImageFault::SecondEntry(_) => Cause::SecondEntry,
             ImageFault::NonZeroByte(_) => Cause::NonZeroByte,
@@ -62,13 +67,36 @@ impl ImageFault {
         ensures { result ≡ fault_place self }
     {
         match self {
-            ImageFault::Record(RecordFault::Field(FieldFault::NoLength(place))) => place,
-            ImageFault::Record(RecordFault::Field(FieldFault::Length(place))) => place,
-            ImageFault::Record(RecordFault::Field(FieldFault::NoContent(place))) => place,
-            ImageFault::Record(RecordFault::Field(FieldFault::Content(place))) => place,
+            ImageFault::Record(RecordFault::Field(fault)) => fault.place,
             ImageFault::Record(RecordFault::Tag(place)) => place,
             ImageFault::SecondEntry(place) => place,
             ImageFault::NonZeroByte(place) => place,
+        }
+    }
+}
+
+impl fmt::Display for ImageFault {
+    ghost output = { λ fault. Some (fault_words fault) };
+
+    fn fmt<W: fmt::Write>(&self, f: &mut fmt::Formatter<W>) -> fmt::Result {
+        let layer = self.layer();
+        let cause = self.cause();
+        let place = self.place();
+        write!(f, "{layer}, {cause}, at byte {place}")
+    }
+}
+
+impl std::error::Error for ImageFault {}
+
+impl From<FieldCheck> for Cause {
+    ghost from_gives = { λ x y. y ≡ check_cause x };
+
+    fn from(check: FieldCheck) -> Cause {
+        match check {
+            FieldCheck::NoLength => Cause::NoLength,
+            FieldCheck::Length => Cause::Length,
+            FieldCheck::NoContent => Cause::NoContent,
+            FieldCheck::Content => Cause::Content,
         }
     }
 }

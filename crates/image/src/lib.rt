@@ -17,7 +17,7 @@ mod tag;
 mod write;
 
 pub use cause::Cause;
-pub use fault::{FieldFault, ImageFault, RecordFault};
+pub use fault::{FieldCheck, FieldFault, ImageFault, RecordFault};
 pub use field::Record;
 pub use layer::Layer;
 pub use packed::PackedImage;

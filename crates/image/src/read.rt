@@ -2,7 +2,7 @@ ghost use Rattle.std.specs.Prelude.{◌≤◌, length, drop};
 ghost use Rattle.names.specs.Names.{class};
 ghost use Rattle.image.specs.Promises.{ContentRead, FieldRead, TagRead, RecordRead};
 
-use crate::fault::{FieldFault, RecordFault};
+use crate::fault::{FieldCheck, FieldFault, RecordFault};
 use crate::field::{Field, Record};
 use crate::tag::Tag;
 
@@ -49,15 +49,16 @@ fn read_tag(bytes: &[u8], tag: Tag, place: usize) -> Result<(), RecordFault>
 fn read_content<'a>(bytes: &'a [u8], tag: Tag, place: usize) -> Result<Field<'a>, FieldFault>
     ensures { ContentRead class result tag place bytes.now }
 {
+    let fault = |check| FieldFault { check, place };
     let [_, high, low, rest @ ..] = bytes else {
-        return Err(FieldFault::NoLength(place));
+        return Err(fault(FieldCheck::NoLength));
     };
     let len = usize::from(u16::from_be_bytes([*high, *low]));
     if !tag.allows(len) {
-        return Err(FieldFault::Length(place));
+        return Err(fault(FieldCheck::Length));
     }
     if rest.len() < len {
-        return Err(FieldFault::NoContent(place));
+        return Err(fault(FieldCheck::NoContent));
     }
-    tag.field(&rest[..len]).ok_or(FieldFault::Content(place))
+    tag.field(&rest[..len]).ok_or(fault(FieldCheck::Content))
 }

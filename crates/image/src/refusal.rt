@@ -1,8 +1,9 @@
-ghost use Rattle.std.specs.Prelude.{◌≡◌};
-ghost use Rattle.image.specs.Refusals.{refusal_number};
+ghost use Rattle.std.specs.Prelude.{◌≡◌, Some};
+ghost use Rattle.image.specs.Refusals.{refusal_number, refusal_words};
 ghost use Rattle.image.specs.declared.refusal.ImageRefusal.{ImageRefusal};
 
 use crate::fault::ImageFault;
+use std::fmt;
 
 /// Why a buffer is refused as an image.
 #[derive(Clone, Copy, PartialEq, Eq, Debug)]
@@ -24,6 +25,20 @@ impl ImageRefusal {
         }
     }
 }
+
+impl fmt::Display for ImageRefusal {
+    ghost output = { λ refusal. Some (refusal_words refusal) };
+
+    fn fmt<W: fmt::Write>(&self, f: &mut fmt::Formatter<W>) -> fmt::Result {
+        let number = self.number();
+        match self {
+            ImageRefusal::TooLarge => write!(f, "refused {number}"),
+            ImageRefusal::Malformed(fault) => write!(f, "refused {number}: {fault}"),
+        }
+    }
+}
+
+impl std::error::Error for ImageRefusal {}
 
 impl From<ImageFault> for ImageRefusal {
     ghost from_gives = { λ x y. y ≡ ImageRefusal.Malformed x };
