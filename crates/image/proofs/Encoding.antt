@@ -1,14 +1,14 @@
 -- One record: what is read of what is written, and the other way round.
-use Rattle.std.proofs.Common.{◌≡◌, ℕ, ◌+◌, ◌/◌, ◌%◌, ◌^◌, ◌<◌, ◌≤◌, true, leb, List, [], ◌∷◌, ◌++◌, length, get_or, take, drop, Some, None, Option, sym, refl, ap, ◌∙◌, subst, append_assoc, arith, lit<}
-use Rattle.std.proofs.lemmas.List.{take-append-drop, drop-drop, length-take-le, length-drop, length-append, take_at, drop_at, get_or-take, get_or-drop, drop_all}
-use Rattle.std.proofs.lemmas.Bool.{le-leb, leb-true, ltb-true, lt-ltb, eqb-true, and_parts, and_from}
+use Rattle.std.proofs.Common.{◌≡◌, ℕ, ◌+◌, ◌/◌, ◌%◌, ◌^◌, ◌<◌, ◌≤◌, true, leb, List, [], ◌∷◌, ◌++◌, length, get_or, take, drop, Some, None, Option, sym, refl, ap, ◌∙◌, subst, ⊎_elim, append_assoc, arith}
+use Rattle.std.proofs.lemmas.List.{take-append-drop, drop-drop, length-take-le, length-drop, length-append, take_at, drop_at, get_or-take, get_or-drop, get_or_past}
+use Rattle.std.proofs.lemmas.Bool.{cases_lt, le-leb, leb-true, ltb-true, lt-ltb, eqb-true, and_parts, and_from}
+use Rattle.std.proofs.lemmas.Nat.{from_be_bytes-to_be_bytes_8, be_bytes_8}
 use Rattle.std.specs.Option.{option_or}
 use Rattle.names.specs.Names.{class, is_short}
 use Rattle.store.specs.Entries.{Entry, is_key}
 use Rattle.image.specs.Format.{field, eight_bytes, record_bytes, number_fits, weight}
 use Rattle.image.specs.Reading.{content_length, content, from_two, from_eight, fault_at, record_fault, read_entry, name_field, number_field, next_record}
 use Rattle.image.proofs.Fields.{Good, good_from, good_fault, some_none}
-use Rattle.image.proofs.Numbers.{two_whole, eight_whole, eight_back}
 
 -- the record of an entry and what follows it, byte by byte
 abbrev pub spelled : Entry → List ℕ → List ℕ
@@ -80,10 +80,10 @@ module _ (e : Entry) (rest : List ℕ) where
 
   pub entry_spelled : number_fits e ≡ true → read_entry (spelled e rest) ≡ e
   entry_spelled h =
-      let a : from_two (content (spelled e rest)) ≡ e.partition = two_whole e.partition in
+      let a : from_two (content (spelled e rest)) ≡ e.partition = omega arith in
       let b = name_spelled in
       let small : e.number < 2 ^ 64 = ltb-true _ _ h in
-      let c : from_eight (content (number_field (spelled e rest))) ≡ e.number = ap (λ l. from_eight (content l)) number_spelled ∙ eight_whole e.number small in
+      let c : from_eight (content (number_field (spelled e rest))) ≡ e.number = ap (λ l. from_eight (content l)) number_spelled ∙ from_be_bytes-to_be_bytes_8 e.number small in
       same_entry _ _ a b c
 
 pub long3 : (bs : List ℕ) → 3 ≤ length bs → get_or bs 0 0 ∷ get_or bs 1 0 ∷ get_or bs 2 0 ∷ drop 3 bs ≡ bs
@@ -103,31 +103,33 @@ long8 (a ∷ b ∷ c ∷ d ∷ e ∷ f ∷ []) h = absurd (omega arith)
 long8 (a ∷ b ∷ c ∷ d ∷ e ∷ f ∷ g ∷ []) h = absurd (omega arith)
 long8 (a ∷ b ∷ c ∷ d ∷ e ∷ f ∷ g ∷ h ∷ bs) l = refl
 
-eight_list : (c : List ℕ) → length c ≡ 8 → ((i : ℕ) → i < 8 → get_or c i 0 < 256) → eight_bytes (from_eight c) ≡ c
-eight_list c l small =
-    let x = long8 c (omega arith) in
-    let z : drop 8 c ≡ [] = drop_all 8 c (omega arith) in
-    let y : get_or c 0 0 ∷ get_or c 1 0 ∷ get_or c 2 0 ∷ get_or c 3 0 ∷ get_or c 4 0 ∷ get_or c 5 0 ∷ get_or c 6 0 ∷ get_or c 7 0 ∷ [] ≡ c = subst (λ t. get_or c 0 0 ∷ get_or c 1 0 ∷ get_or c 2 0 ∷ get_or c 3 0 ∷ get_or c 4 0 ∷ get_or c 5 0 ∷ get_or c 6 0 ∷ get_or c 7 0 ∷ t ≡ c) z x in
-    eight_back (get_or c 0 0) (get_or c 1 0) (get_or c 2 0) (get_or c 3 0) (get_or c 4 0) (get_or c 5 0) (get_or c 6 0) (get_or c 7 0)
-    (small 0 (lit< tt)) (small 1 (lit< tt)) (small 2 (lit< tt)) (small 3 (lit< tt)) (small 4 (lit< tt)) (small 5 (lit< tt)) (small 6 (lit< tt)) (small 7 (lit< tt)) ∙ y
-
-eight_below : (c : List ℕ) → ((i : ℕ) → i < 8 → get_or c i 0 < 256) → from_eight c < 2 ^ 64
-eight_below c small = omega (arith, small 0 (lit< tt), small 1 (lit< tt), small 2 (lit< tt), small 3 (lit< tt), small 4 (lit< tt), small 5 (lit< tt), small 6 (lit< tt), small 7 (lit< tt))
+eight_below : (c : List ℕ) → ((i : ℕ) → get_or c i 0 < 256) → from_eight c < 2 ^ 64
+eight_below c small = omega (arith, small 0, small 1, small 2, small 3, small 4, small 5, small 6, small 7)
 
 -- what an entry without fault says, encoded again, is what stands there
 module _ (bs : List ℕ) (w : Whole bs) (bytes : (i : ℕ) → get_or bs i 0 < 256) where
   name_size : (1 ≤ content_length (name_field bs)) × (content_length (name_field bs) ≤ 32)
   name_size = let p = and_parts _ _ w.name.fits in (leb-true _ _ p.0, leb-true _ _ p.1)
 
-  number_small : (i : ℕ) → i < 8 → get_or (content (number_field bs)) i 0 < 256
-  number_small i h =
+  number_long : content (number_field bs) ≡ take 8 (drop 3 (number_field bs))
+  number_long = ap (λ k. take k (drop 3 (number_field bs))) (eqb-true _ _ w.number.fits)
+
+  number_eight : length (content (number_field bs)) ≡ 8
+  number_eight =
+      let long : content_length (number_field bs) ≡ 8 = eqb-true _ _ w.number.fits in
+      ap length number_long ∙ length-take-le 8 (drop 3 (number_field bs)) (omega (arith, length-drop 3 (number_field bs), w.number.room))
+
+  number_small : (i : ℕ) → get_or (content (number_field bs)) i 0 < 256
+  number_small i =
       let nb = number_field bs in
       let n = content_length (name_field bs) in
-      let long : content_length nb ≡ 8 = eqb-true _ _ w.number.fits in
-      let c : content nb ≡ take 8 (drop 3 nb) = ap (λ k. take k (drop 3 nb)) long in
+      ⊎_elim
+      (λ below.
       subst (λ x. x < 256)
-      (sym (ap (λ l. get_or l i 0) c ∙ get_or-take 8 (drop 3 nb) i 0 h ∙ get_or-drop 3 nb i 0 ∙ get_or-drop (8 + n) bs (3 + i) 0))
-      (bytes (8 + n + (3 + i)))
+      (sym (ap (λ l. get_or l i 0) number_long ∙ get_or-take 8 (drop 3 nb) i 0 below ∙ get_or-drop 3 nb i 0 ∙ get_or-drop (8 + n) bs (3 + i) 0))
+      (bytes (8 + n + (3 + i))))
+      (λ above. omega (arith, get_or_past (content nb) i 0 (omega (arith, number_eight))))
+      (cases_lt i 8)
 
   -- the number's field and what follows
   third : 3 ∷ 0 ∷ 8 ∷ (eight_bytes (from_eight (content (number_field bs))) ++ drop (weight (content_length (name_field bs))) bs) ≡ number_field bs
@@ -139,10 +141,7 @@ module _ (bs : List ℕ) (w : Whole bs) (bytes : (i : ℕ) → get_or bs i 0 < 2
       let t0 : get_or nb 0 0 ≡ 3 = w.number.tag in
       let t1 : get_or nb 1 0 ≡ 0 = omega arith in
       let t2 : get_or nb 2 0 ≡ 8 = omega arith in
-      let c : content nb ≡ take 8 (drop 3 nb) = ap (λ k. take k (drop 3 nb)) long in
-      let l : length (content nb) ≡ 8 = ap length c ∙ length-take-le 8 (drop 3 nb) (omega (arith, length-drop 3 nb)) in
-      let small = number_small in
-      let e : eight_bytes (from_eight (content nb)) ≡ take 8 (drop 3 nb) = eight_list (content nb) l small ∙ c in
+      let e : eight_bytes (from_eight (content nb)) ≡ take 8 (drop 3 nb) = be_bytes_8 (content nb) (from_eight (content nb)) number_eight number_small refl ∙ number_long in
       let s : weight n ≡ 8 + n + 11 = omega arith in
       let r : drop (weight n) bs ≡ drop 8 (drop 3 nb) = ap (λ k. drop k bs) s ∙ sym (drop-drop 11 (8 + n) bs) ∙ sym (drop-drop 8 3 nb) in
       let tail : eight_bytes (from_eight (content nb)) ++ drop (weight n) bs ≡ drop 3 nb = (λ i. e i ++ r i) ∙ take-append-drop 8 (drop 3 nb) in

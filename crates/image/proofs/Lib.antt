@@ -1,4 +1,3 @@
-mod Numbers
 mod Fields
 mod ThreeFields
 mod Encoding
