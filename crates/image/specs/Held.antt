@@ -25,9 +25,11 @@ held cls s = listed cls (own_bytes s)
 abbrev pub room_of : PackedImage → Room
 room_of s = image_room s.len
 
--- the bytes behind the store's own stayed as they were
-abbrev pub Beyond : PackedImage → PackedImage → Type 0
-Beyond s s' = drop s.len (all_bytes s') ≡ drop s.len (all_bytes s)
+-- a call changes the store's own bytes alone: the capacity and the weights stay, so do the bytes behind, and the same bytes are lent
+pub record ChangesWithin (s s' : PackedImage) : Type 0 where
+  pub keeps : room_of s' ≡ room_of s
+  pub beyond : drop s.len (all_bytes s') ≡ drop s.len (all_bytes s)
+  pub lends : s'.image.ghost_name ≡ s.image.ghost_name
 
 -- the entries after a put of e, in their order: a new one comes last
 abbrev pub put_order : Result Unit PutError → List Entry → Entry → List Entry

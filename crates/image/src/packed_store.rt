@@ -3,7 +3,7 @@ ghost use Rattle.names.specs.Names.{class};
 ghost use Rattle.store.specs.Calls.{put_answer, PutLeaves, TakeLeaves, move_answer, MoveLeaves};
 ghost use Rattle.store.specs.Entries.{entry_of, found};
 ghost use Rattle.image.specs.Format.{encoded};
-ghost use Rattle.image.specs.Held.{own_bytes, held, room_of, Beyond, put_order, take_order, move_order};
+ghost use Rattle.image.specs.Held.{own_bytes, held, room_of, ChangesWithin, put_order, take_order, move_order};
 ghost use Rattle.image.specs.Lawful.{bounded, weighty, within};
 ghost use Rattle.image.specs.Promises.{Sought};
 ghost use Rattle.image.specs.Reading.{listed};
@@ -61,9 +61,7 @@ impl Store for PackedImage<'_> {
         ensures gives { result ≡ put_answer class (room_of self.old) (held class self.old) partition name.now }
         ensures order { held class self.new ≡ put_order result (held class self.old) (entry_of partition name.now number) }
         ensures leaves { PutLeaves result (held class self.old) (entry_of partition name.now number) (held class self.new) }
-        ensures keeps { room_of self.new ≡ room_of self.old }
-        ensures beyond { Beyond self.old self.new }
-        ensures lends { self.new.image.ghost_name ≡ self.old.image.ghost_name }
+        ensures within { ChangesWithin self.old self.new }
     {
         if !is_key(partition, name) {
             return Err(PutError::BadKey);
@@ -88,9 +86,7 @@ impl Store for PackedImage<'_> {
         ensures gives { result ≡ found (held class self.old) partition name.now }
         ensures order { held class self.new ≡ take_order result (held class self.old) partition name.now }
         ensures leaves { TakeLeaves result (held class self.old) partition name.now (held class self.new) }
-        ensures keeps { room_of self.new ≡ room_of self.old }
-        ensures beyond { Beyond self.old self.new }
-        ensures lends { self.new.image.ghost_name ≡ self.old.image.ghost_name }
+        ensures within { ChangesWithin self.old self.new }
     {
         let Ok(held) = self.look(partition, name) else {
             return None;
@@ -104,9 +100,7 @@ impl Store for PackedImage<'_> {
         ensures gives { result ≡ move_answer (held class self.old) from to name.now }
         ensures order { held class self.new ≡ move_order result (held class self.old) from to name.now }
         ensures leaves { MoveLeaves result (held class self.old) from to name.now (held class self.new) }
-        ensures keeps { room_of self.new ≡ room_of self.old }
-        ensures beyond { Beyond self.old self.new }
-        ensures lends { self.new.image.ghost_name ≡ self.old.image.ghost_name }
+        ensures within { ChangesWithin self.old self.new }
     {
         if to > LAST_PARTITION {
             return Err(MoveError::Absent);
@@ -140,9 +134,7 @@ impl Store for PackedImage<'_> {
 
     fn clear(&mut self)
         ensures empties { held class self.new ≡ [] }
-        ensures keeps { room_of self.new ≡ room_of self.old }
-        ensures beyond { Beyond self.old self.new }
-        ensures lends { self.new.image.ghost_name ≡ self.old.image.ghost_name }
+        ensures within { ChangesWithin self.old self.new }
     {
         let end = self.end_from(0);
         self.image[..end].fill(0);

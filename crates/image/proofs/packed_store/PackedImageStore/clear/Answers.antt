@@ -26,4 +26,4 @@ invariant_of-self c =
     record { within = k.within; few = c.args.self.now.few; shape = k.shape; keys = k.keys; numbers = k.numbers }
 
 pub returns : goal.returns
-returns c = let k = after (goal.at.returns c).After-fill in record { empties = k.image.lists; keeps = refl; beyond = k.beyond; lends = refl }
+returns c = let k = after (goal.at.returns c).After-fill in record { empties = k.image.lists; within = record { keeps = refl; beyond = k.beyond; lends = refl } }

@@ -59,7 +59,5 @@ returns c =
       gives = sym (put_added class (room_of s) es c.args.partition c.args.name.now (sym c.if-not-is_key.ensures) (found_not es _ _ c.in-Err.ensures.1) (omega (arith, end (goal.at.returns c).In-Err, c.in-Err.ensures.0, used_encoded es, c.length-length.ensures, c.if-self-end.false)));
       order = k.image.lists;
       leaves = subst (IsPermutation (new ∷ es)) (sym k.image.lists) (shuffled_from (perm_push new es));
-      keeps = refl;
-      beyond = k.beyond;
-      lends = refl;
+      within = record { keeps = refl; beyond = k.beyond; lends = refl };
     }

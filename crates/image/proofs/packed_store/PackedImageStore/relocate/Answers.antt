@@ -75,7 +75,5 @@ returns c =
       gives = sym (move_moved es p q n t (omega arith) (free (goal.at.returns c).Else-is_ok));
       order = k.image.lists;
       leaves = subst (IsPermutation (new ∷ without es p n)) (sym k.image.lists) (leaves_set es p n (entry_of p n 0) (index_in es p n t) new);
-      keeps = refl;
-      beyond = k.beyond;
-      lends = refl;
+      within = record { keeps = refl; beyond = k.beyond; lends = refl };
     }

@@ -68,7 +68,5 @@ returns c =
       gives = sym c.in-Ok.ensures.2;
       order = k.image.lists;
       leaves = subst (IsPermutation es) (sym k.image.lists) (IsPermutation-refl es);
-      keeps = refl;
-      beyond = k.beyond;
-      lends = refl;
+      within = record { keeps = refl; beyond = k.beyond; lends = refl };
     }
