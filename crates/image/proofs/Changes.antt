@@ -9,6 +9,7 @@ use Rattle.store.specs.Calls.{number_in}
 use Rattle.store.specs.Entries.{Entry, entry_of, has_key, found, holds, without, index, is_key, sound}
 use Rattle.store.proofs.KeyFacts.{key_true}
 use Rattle.image.specs.Format.{weight, field, two_bytes, record_bytes, encoded, number_fits, Packed}
+use Rattle.image.specs.Filled.{IsFilled}
 use Rattle.image.specs.Held.{own_bytes, held, passed}
 use Rattle.image.specs.Lawful.{length_record}
 use Rattle.image.specs.Reading.{listed, place_of}
@@ -19,9 +20,7 @@ use Rattle.image.proofs.LawfulLists.{Lawful, lawful_back, lawful_without, lawful
 -- an image of len bytes at the front of bytes, with these entries
 pub record Image (len : ℕ) (bytes : List ℕ) (es : List Entry) : Type 0 where
   pub within : len ≤ length bytes
-  pub shape : take len bytes ≡ encoded (listed class (take len bytes)) ++ replicate (len - length (encoded (listed class (take len bytes)))) 0
-  pub keys : sound class (listed class (take len bytes)) ≡ true
-  pub numbers : list_all number_fits (listed class (take len bytes)) ≡ true
+  pub filled : IsFilled len (take len bytes)
   pub lists : listed class (take len bytes) ≡ es
 
 pub packed_from : (bs : List ℕ) (es : List Entry) (free : ℕ) → bs ≡ encoded es ++ replicate free 0 → Lawful es → Packed class bs es
@@ -35,15 +34,17 @@ image_from len bytes es w h =
     let free : h.free ≡ len - length (encoded es) = omega (arith, l, length-replicate {A = ℕ} h.free 0, length-take-le len bytes w) in
     record {
       within = w;
-      shape = subst (λ fs. bs ≡ encoded fs ++ replicate (len - length (encoded fs)) 0) (sym is) (h.shape ∙ ap (λ k. encoded es ++ replicate k 0) free);
-      keys = ap (sound class) is ∙ h.keys;
-      numbers = ap (list_all number_fits) is ∙ h.numbers;
+      filled = record {
+        shape = subst (λ fs. bs ≡ encoded fs ++ replicate (len - length (encoded fs)) 0) (sym is) (h.shape ∙ ap (λ k. encoded es ++ replicate k 0) free);
+        keys = ap (sound class) is ∙ h.keys;
+        numbers = ap (list_all number_fits) is ∙ h.numbers;
+      };
       lists = is;
     }
 
 -- the invariant of the struct says it
 pub held_packed : (s : PackedImage) → Packed class (own_bytes s) (held class s)
-held_packed s = record { free = s.len - length (encoded (held class s)); shape = s.shape; keys = s.keys; numbers = s.numbers }
+held_packed s = record { free = s.len - length (encoded (held class s)); shape = s.filled.shape; keys = s.filled.keys; numbers = s.filled.numbers }
 
 pub image_whole : (bytes : List ℕ) (len : ℕ) → len ≡ length bytes → Packed class bytes (listed class bytes) → Image len bytes (listed class bytes)
 image_whole bytes len e h = image_from len bytes (listed class bytes) (omega arith) (subst (λ l. Packed class l (listed class bytes)) (sym (take_all len bytes (omega arith))) h)

@@ -26,5 +26,5 @@ weighty s len = omega arith
 pub within : (s : PackedImage) → used (room_of s).weight (held class s) ≤ (room_of s).capacity
 within s =
     let es = held class s in
-    let l = ap length s.shape ∙ length-append (encoded es) (replicate {A = ℕ} (s.len - length (encoded es)) 0) in
+    let l = ap length s.filled.shape ∙ length-append (encoded es) (replicate {A = ℕ} (s.len - length (encoded es)) 0) in
     omega (arith, used_encoded es, l, length-take-le s.len s.image.now s.within)

@@ -1,5 +1,6 @@
 pub mod Format
 pub mod Reading
+pub mod Filled
 pub mod Refusals
 pub mod Tags
 pub mod Promises

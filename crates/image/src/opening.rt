@@ -1,8 +1,7 @@
-ghost use Rattle.std.specs.Prelude.{◌≡◌, ◌-◌, ◌≤◌, true, [], ◌++◌, length, take, replicate, if◌then◌else◌};
-ghost use Rattle.std.specs.List.{list_all};
+ghost use Rattle.std.specs.Prelude.{◌≡◌, ◌≤◌, true, [], length, take, if◌then◌else◌};
 ghost use Rattle.names.specs.Names.{class};
-ghost use Rattle.store.specs.Entries.{sound};
-ghost use Rattle.image.specs.Format.{encoded, image_room, number_fits, Packed};
+ghost use Rattle.image.specs.Format.{image_room, Packed};
+ghost use Rattle.image.specs.Filled.{IsFilled};
 ghost use Rattle.image.specs.Held.{all_bytes, held, room_of};
 ghost use Rattle.image.specs.Reading.{listed};
 ghost use Rattle.image.specs.Refusals.{image_answer, image_refused, accepted};
@@ -56,9 +55,7 @@ fn capacity(image: &[u8]) -> usize
     ensures value { result ≡ (if accepted class image.now then length image.now else 0) }
     ensures within { result ≤ length image.now }
     ensures few { result ≤ 65536 }
-    ensures shape { take result image.now ≡ encoded (listed class (take result image.now)) ++ replicate (result - length (encoded (listed class (take result image.now)))) 0 }
-    ensures keys { sound class (listed class (take result image.now)) ≡ true }
-    ensures numbers { list_all number_fits (listed class (take result image.now)) ≡ true }
+    ensures filled { IsFilled result (take result image.now) }
     ensures entries { listed class (take result image.now) ≡ (if accepted class image.now then listed class image.now else []) }
     ensures packed { accepted class image.now ≡ true → Packed class image.now (listed class (take result image.now)) }
 {

@@ -1,9 +1,5 @@
-ghost use Rattle.std.specs.Prelude.{◌≡◌, ◌-◌, ◌≤◌, true, ◌++◌, length, take, replicate};
-ghost use Rattle.std.specs.List.{list_all};
-ghost use Rattle.names.specs.Names.{class};
-ghost use Rattle.store.specs.Entries.{sound};
-ghost use Rattle.image.specs.Format.{encoded, number_fits};
-ghost use Rattle.image.specs.Reading.{listed};
+ghost use Rattle.std.specs.Prelude.{◌≤◌, length, take};
+ghost use Rattle.image.specs.Filled.{IsFilled};
 
 /// A store that lies in the first `len` of the caller's bytes, as the records of its entries and then zeros.
 #[derive(Drop)]
@@ -12,7 +8,5 @@ pub struct PackedImage<'a> {
     pub(crate) len: usize,
     ghost within: { len ≤ length image.now },
     ghost few: { len ≤ 65536 },
-    ghost shape: { take len image.now ≡ encoded (listed class (take len image.now)) ++ replicate (len - length (encoded (listed class (take len image.now)))) 0 },
-    ghost keys: { sound class (listed class (take len image.now)) ≡ true },
-    ghost numbers: { list_all number_fits (listed class (take len image.now)) ≡ true },
+    ghost filled: { IsFilled len (take len image.now) },
 }

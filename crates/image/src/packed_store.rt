@@ -44,7 +44,7 @@ impl Store for PackedImage<'_> {
 
     ghost room = { room_of };
 
-    ghost lawful = { λ s. s.keys };
+    ghost lawful = { λ s. s.filled.keys };
 
     ghost bounded = { bounded };
 

@@ -23,7 +23,7 @@ after c =
 pub invariant_of-self : goal.invariant_of-self
 invariant_of-self c =
     let k = (after (goal.at.invariant_of-self c).After-fill).image in
-    record { within = k.within; few = c.args.self.now.few; shape = k.shape; keys = k.keys; numbers = k.numbers }
+    record { within = k.within; few = c.args.self.now.few; filled = k.filled }
 
 pub returns : goal.returns
 returns c = let k = after (goal.at.returns c).After-fill in record { empties = k.image.lists; within = record { keeps = refl; beyond = k.beyond; lends = refl } }

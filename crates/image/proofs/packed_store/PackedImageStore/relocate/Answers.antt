@@ -54,13 +54,13 @@ after c =
     let t = found_is es p n _ c.in-Ok.ensures.2 in
     let top : q / 256 % 256 ≡ q / 256 = omega arith in
     image_passed image s.len s.within es (held_packed s) p q n _ at c.in-Ok.ensures.0 t (sought_not c.look-2.result es _ _ c.look-2.ensures (sym c.if-is_ok.ensures.value))
-    (key_other class p q n (holds_key class es p n s.keys t) (omega arith))
+    (key_other class p q n (holds_key class es p n s.filled.keys t) (omega arith))
     (mid_put image c.write_field.new.part at (at + 5) (omega arith) ∙ ap (λ l. take at image ++ (l ++ drop (at + 5) image)) (c.write_field.ensures ∙ ap (field 1) (c.to_be_bytes.ensures ∙ ap (λ t. t ∷ q % 256 ∷ []) top)))
 
 pub invariant_of-self : goal.invariant_of-self
 invariant_of-self c =
     let k = (after (goal.at.invariant_of-self c).After-write_field).image in
-    record { within = k.within; few = c.args.self.now.few; shape = k.shape; keys = k.keys; numbers = k.numbers }
+    record { within = k.within; few = c.args.self.now.few; filled = k.filled }
 
 pub returns : goal.returns
 returns c =

@@ -58,7 +58,7 @@ after c =
 pub invariant_of-self : goal.invariant_of-self
 invariant_of-self c =
     let k = (after (goal.at.invariant_of-self c).After-close_up).image in
-    record { within = k.within; few = c.args.self.now.few; shape = k.shape; keys = k.keys; numbers = k.numbers }
+    record { within = k.within; few = c.args.self.now.few; filled = k.filled }
 
 pub returns : goal.returns
 returns c =
