@@ -7,9 +7,6 @@ use Rattle.image.proofs.Changes.{Changed, held_packed, encoded_fits, image_clear
 use Rattle.image.proofs.packed_store.PackedImageStore.clear.Goals as goal
 use Rattle.image.proofs.packed_store.PackedImageStore.clear.Goals.{After-fill}
 
-pub slice_bounds-fill-end : goal.slice_bounds-fill-end
-slice_bounds-fill-end c = let s = c.args.self.now in omega (arith, c.end_from-end.ensures ∙ zero-add _, encoded_fits (all_bytes s) s.len s.within (held class s) (held_packed s), s.within)
-
 after : (c : goal.After-fill) → Changed c.args.self.now.len (all_bytes c.args.self.now) (c.fill.new.self ++ drop c.end_from-end.result (all_bytes c.args.self.now)) []
 after c =
     let s = c.args.self.now in

@@ -23,9 +23,6 @@ returns-in_default-clause-gives c =
 end : (c : goal.In-Err) → c.in-Err.end ≤ c.args.self.now.len
 end c = let s = c.args.self.now in omega (arith, c.in-Err.ensures.0, encoded_fits (all_bytes s) s.len s.within (held class s) (held_packed s))
 
-pub overflow_sub-self : goal.overflow_sub-self
-overflow_sub-self c = end (goal.at.overflow_sub-self c).In-Err
-
 pub returns-then-self-end-clause-gives : goal.returns-then-self-end-clause-gives
 returns-then-self-end-clause-gives c =
     let s = c.args.self.now in

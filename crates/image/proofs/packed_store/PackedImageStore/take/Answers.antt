@@ -32,9 +32,6 @@ slice_bounds-close_up-end c =
     let es = held class s in
     omega (arith, encoded_fits (all_bytes s) s.len s.within es (held_packed s), end (goal.at.slice_bounds-close_up-end c).After-end_from-end, s.within)
 
-pub slice_bounds-close_up-start : goal.slice_bounds-close_up-start
-slice_bounds-close_up-start c = omega (arith, c.end_from-end.ensures)
-
 pub close_up-requires : goal.close_up-requires
 close_up-requires c =
     let s = c.args.self.now in
