@@ -1,7 +1,7 @@
 -- The bytes of a packed image before and after a change.
 use Rattle.std.proofs.Common.{◌≡◌, ℕ, suc, ◌+◌, ◌-◌, ◌≤◌, Bool, true, false, cond, ◌||◌, List, [], ◌∷◌, ◌++◌, length, take, drop, set, replicate, Some, Option, sym, refl, ap, ◌∙◌, subst, ⊎_elim, append_assoc, arith, take-add}
 use Rattle.std.specs.List.{list_all}
-use Rattle.std.proofs.lemmas.List.{length-drop, length-append, length-replicate, length-take-le, take_at, drop_at, drop-drop, drop-replicate, replicate-append-replicate, take-take, take_all, take-append-drop, drop-append-le, flat_map_more}
+use Rattle.std.proofs.lemmas.List.{length-drop, length-append, length-replicate, length-take-le, take_at, drop_at, drop-drop, drop-replicate, replicate-append-replicate, take-take, take-append-drop, drop-append-le, flat_map_more}
 use Rattle.std.proofs.lemmas.Slice.{between_is}
 use Rattle.std.proofs.lemmas.Bool.{cond-true, cond-false, and_parts, or_parts, cases_Bool, false≢true}
 use Rattle.names.specs.Names.{class}
@@ -45,9 +45,6 @@ image_from len bytes es w h =
 -- the invariant of the struct says it
 pub held_packed : (s : PackedImage) → Packed class (own_bytes s) (held class s)
 held_packed s = record { free = s.len - length (encoded (held class s)); shape = s.filled.shape; keys = s.filled.keys; numbers = s.filled.numbers }
-
-pub image_whole : (bytes : List ℕ) (len : ℕ) → len ≡ length bytes → Packed class bytes (listed class bytes) → Image len bytes (listed class bytes)
-image_whole bytes len e h = image_from len bytes (listed class bytes) (omega arith) (subst (λ l. Packed class l (listed class bytes)) (sym (take_all len bytes (omega arith))) h)
 
 -- parts of lists that are joined
 take_past : (xs ys : List ℕ) (w b : ℕ) → length xs ≡ w → take (w + b) (xs ++ ys) ≡ xs ++ take b ys

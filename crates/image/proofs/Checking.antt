@@ -9,13 +9,11 @@ use Rattle.store.specs.Entries.{Entry, found, holds}
 use Rattle.image.specs.Format.{weight, record_bytes, encoded}
 use Rattle.image.specs.Lawful.{length_record}
 use Rattle.image.specs.Reading.{content_length, record_fault, read_entry, name_field, next_record, ended, non_zero, listed, fault_from, fault}
-use Rattle.image.specs.Refusals.{malformed, image_answer, fault_answer, image_refused, accepted}
 use Rattle.image.specs.Theorems.{Checked}
 use Rattle.image.specs.declared.fault.RecordFault.{RecordFault}
 use Rattle.image.specs.declared.fault.ImageFault.{ImageFault}
 use Rattle.image.specs.declared.fault.ImageFault.TheVariants.{Record, SecondEntry, NonZeroByte}
-use Rattle.image.specs.declared.refusal.ImageRefusal.{ImageRefusal}
-use Rattle.image.specs.declared.refusal.ImageRefusal.TheVariants.{TooLarge, Malformed}
+use Rattle.image.specs.declared.refusal.ImageRefusal.TheVariants.{Malformed}
 use Rattle.image.proofs.Fields.{some_none}
 use Rattle.image.proofs.Encoding.{Whole, whole_from, spelled, record_spelled, spelled_back, key_read, number_read}
 use Rattle.image.proofs.FirstFault.{record_some, record_none, first_fault}
@@ -133,24 +131,3 @@ module _ (bs : List ℕ) (small : (i : ℕ) → get_or bs i 0 < 256) (few : leng
 
   pub checked_fault : (f : ImageFault) → fault class bs ≡ Some f → Checked class (Err (Malformed f)) bs
   checked_fault f h = (few, (λ es p. some_none f (sym h ∙ packed_fine bs es p)), first_fault bs small f h)
-
--- the answer of a check in numbers
-module _ (bs : List ℕ) (few : length bs ≤ 65536) where
-  fits : leb (length bs) 65536 ≡ true
-  fits = le-leb (length bs) 65536 few
-
-  pub refused_fine : fault class bs ≡ None → image_refused class bs ≡ (0, 0, 0, 0)
-  refused_fine h = cond-true (leb (length bs) 65536) _ _ fits ∙ ap fault_answer h
-
-  pub refused_fault : (f : ImageFault) → fault class bs ≡ Some f → image_refused class bs ≡ malformed f
-  refused_fault f h = cond-true (leb (length bs) 65536) _ _ fits ∙ ap fault_answer h
-
-pub answer_accepts : (bs : List ℕ) → image_answer (Ok tt) ≡ image_refused class bs → accepted class bs ≡ true
-answer_accepts bs h = ap (λ (t : ℕ × ℕ × ℕ × ℕ). eqb t.0 0) (sym h)
-
-not_zero : (r : ImageRefusal) → eqb (image_answer (Err r)).0 0 ≡ false
-not_zero TooLarge = refl
-not_zero (Malformed f) = refl
-
-pub answer_refuses : (bs : List ℕ) (r : ImageRefusal) → image_answer (Err r) ≡ image_refused class bs → accepted class bs ≡ false
-answer_refuses bs r h = ap (λ (t : ℕ × ℕ × ℕ × ℕ). eqb t.0 0) (sym h) ∙ not_zero r

@@ -8,9 +8,6 @@ use Rattle.image.specs.declared.fault.RecordFault.{RecordFault}
 use Rattle.image.proofs.Fields.{good_from, length_content}
 
 module _ (bs : List ℕ) (place : ℕ) (f : RecordFault) where
-  pub first_bad : fault_at class 1 place bs ≡ Some f → record_fault class place bs ≡ Some f
-  first_bad h = rw h
-
   pub second_bad : fault_at class 1 place bs ≡ None → fault_at class 2 (place + 5) (name_field bs) ≡ Some f → record_fault class place bs ≡ Some f
   second_bad a h = rw (a, h)
 
