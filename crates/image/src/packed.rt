@@ -5,6 +5,7 @@ ghost use Rattle.image.specs.Filled.{IsFilled};
 #[derive(Drop)]
 pub struct PackedImage<'a> {
     pub(crate) image: &'a mut [u8],
+    // Kept: the whole buffer goes back to its owner, so the part before `len` cannot be split off for good.
     pub(crate) len: usize,
     ghost within: { len ≤ length image.now },
     ghost few: { len ≤ 65536 },

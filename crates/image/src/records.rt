@@ -39,8 +39,6 @@ impl<'a> Iterator for Records<'a> {
 fn split_record<'a>(bytes: &'a [u8]) -> Option<(Record<'a>, &'a [u8])>
     ensures { MatchOption result (listed class bytes.now ≡ []) (λ split. FirstEntry class bytes.now (entry_in split.0) split.1.now) }
 {
-    match read_record(bytes, 0) {
-        Ok(record) => Some((record, &bytes[record.length()..])),
-        Err(_) => None,
-    }
+    let record = read_record(bytes, 0).ok()?;
+    Some((record, &bytes[record.length()..]))
 }

@@ -17,11 +17,12 @@ pub(crate) struct Placed {
     pub(crate) number: u64,
 }
 
+// Kept: a partition and a name go side by side in the calls of every store, which pass them on here as they are.
 /// The record of the entry with this key, or where the records end.
 pub(crate) fn seek(image: &[u8], partition: u16, name: &[u8]) -> Result<Placed, usize>
     ensures { Sought result (listed class image.now) partition name.now }
 {
-    // Kept: the place adds up over the records passed, and is an answer too where none has the key, which a fold that breaks off would say the wrong way round.
+    // Kept: the place adds up over the records passed and is the answer where none has the key, which a fold that breaks off would say the wrong way round.
     let mut place = 0;
     for record in Records::of(image) {
         let length = record.length();
