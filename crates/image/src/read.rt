@@ -50,7 +50,7 @@ fn read_content<'a>(bytes: &'a [u8], tag: Tag, place: usize) -> Result<Field<'a>
     ensures { ContentRead class result tag place bytes.now }
 {
     let fault = |check| FieldFault { check, place };
-    let [_, high, low, rest @ ..] = bytes else {
+    let [_tag, high, low, rest @ ..] = bytes else {
         return Err(fault(FieldCheck::NoLength));
     };
     // Kept: by u16::from_be_bytes a find among 1,000 entries takes 7,012 ns, and by this sum 5,736 ns.
