@@ -137,6 +137,6 @@ impl Store for PackedImage<'_> {
         ensures within { ChangesWithin self.old self.new }
     {
         let end = self.end_from(0);
-        self.image[..end].fill(0);
+        close_up(&mut self.image[..end], end);
     }
 }

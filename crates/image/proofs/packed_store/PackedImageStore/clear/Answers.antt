@@ -1,26 +1,26 @@
-use Rattle.std.proofs.Common.{◌≡◌, [], ◌++◌, length, drop, replicate, refl, ◌∙◌, ap, zero-add, arith}
-use Rattle.std.proofs.lemmas.List.{length-take-le}
+use Rattle.std.proofs.Common.{◌≡◌, ℕ, List, [], ◌++◌, length, take, drop, replicate, refl, ap, ◌∙◌, zero-add, arith}
+use Rattle.std.proofs.lemmas.List.{length-take-le, drop_all}
 use Rattle.names.specs.Names.{class}
 use Rattle.image.specs.Format.{encoded}
+use Rattle.image.specs.declared.packed.PackedImage.{PackedImage}
 use Rattle.image.specs.Held.{held, all_bytes}
 use Rattle.image.proofs.Changes.{Changed, held_packed, encoded_fits, image_cleared}
 use Rattle.image.proofs.packed_store.PackedImageStore.clear.Goals as goal
-use Rattle.image.proofs.packed_store.PackedImageStore.clear.Goals.{After-fill}
 
-after : (c : goal.After-fill) → Changed c.args.self.now.len (all_bytes c.args.self.now) (c.fill.new.self ++ drop c.end_from-end.result (all_bytes c.args.self.now)) []
-after c =
-    let s = c.args.self.now in
+-- what was closed up comes first, so that it says up to where
+closed : (s : PackedImage) (part : List ℕ) (u : ℕ) → part ≡ drop u (take u (all_bytes s)) ++ replicate u 0 → u ≡ length (encoded (held class s)) → Changed s.len (all_bytes s) (part ++ drop u (all_bytes s)) []
+closed s part u is end =
     let image = all_bytes s in
-    let u = c.end_from-end.result in
-    let e : u ≡ length (encoded (held class s)) = c.end_from-end.ensures ∙ zero-add _ in
     let fits = encoded_fits image s.len s.within (held class s) (held_packed s) in
-    image_cleared image s.len s.within (held class s) (held_packed s) _ u e
-    (ap (λ l. l ++ drop u image) (c.fill.ensures.after (λ y h. h) ∙ ap (λ k. replicate k 0) (length-take-le u image (omega (arith, fits, e, s.within)))))
+    let none : drop u (take u image) ≡ [] = drop_all u (take u image) (omega (arith, length-take-le u image (omega (arith, fits, end, s.within)))) in
+    image_cleared image s.len s.within (held class s) (held_packed s) _ u end (ap (λ l. l ++ drop u image) (is ∙ ap (λ l. l ++ replicate u 0) none))
 
 pub invariant_of-self : goal.invariant_of-self
 invariant_of-self c =
-    let k = (after (goal.at.invariant_of-self c).After-fill).image in
+    let k = (closed c.args.self.now c.close_up.new.part _ c.close_up.ensures (omega (arith, c.end_from-end.ensures ∙ zero-add _))).image in
     record { within = k.within; few = c.args.self.now.few; filled = k.filled }
 
 pub returns : goal.returns
-returns c = let k = after (goal.at.returns c).After-fill in record { empties = k.image.lists; within = record { keeps = refl; beyond = k.beyond; lends = refl } }
+returns c =
+    let k = closed c.args.self.now c.close_up.new.part _ c.close_up.ensures (omega (arith, c.end_from-end.ensures ∙ zero-add _)) in
+    record { empties = k.image.lists; within = record { keeps = refl; beyond = k.beyond; lends = refl } }
