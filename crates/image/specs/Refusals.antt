@@ -82,10 +82,10 @@ abbrev pub refusal_number : ImageRefusal → ℕ
 refusal_number TooLarge = 33
 refusal_number (Malformed f) = 34
 
--- a refusal in words: its number, and the fault of a malformed image
+-- a refusal in words: of a malformed image, its fault
 abbrev pub refusal_words : ImageRefusal → List ℕ
-refusal_words TooLarge = codes "refused " ++ decimal 33
-refusal_words (Malformed f) = codes "refused " ++ (decimal 34 ++ (codes ": " ++ fault_words f))
+refusal_words TooLarge = codes "it has more than 65,536 bytes"
+refusal_words (Malformed f) = fault_words f
 
 -- a malformed image's numbers: 34, and the layer, the cause and the place of its fault
 abbrev pub malformed : ImageFault → ℕ × ℕ × ℕ × ℕ

@@ -1,4 +1,4 @@
-ghost use Rattle.std.specs.Prelude.{◌≡◌, Some};
+ghost use Rattle.std.specs.Prelude.{Some};
 ghost use Rattle.image.specs.Refusals.{cause_words};
 
 use std::fmt;
@@ -22,11 +22,11 @@ pub enum Cause {
     NonZeroByte,
 }
 
-impl Cause {
-    fn words(self) -> &'static str
-        ensures { result.now ≡ cause_words self }
-    {
-        match self {
+impl fmt::Display for Cause {
+    ghost output = { λ cause. Some (cause_words cause) };
+
+    fn fmt<W: fmt::Write>(&self, f: &mut fmt::Formatter<W>) -> fmt::Result {
+        f.write_str(match self {
             Cause::Tag => "tag",
             Cause::NoLength => "length does not fit",
             Cause::Length => "length",
@@ -34,14 +34,6 @@ impl Cause {
             Cause::Content => "content",
             Cause::SecondEntry => "second entry",
             Cause::NonZeroByte => "non-zero byte",
-        }
-    }
-}
-
-impl fmt::Display for Cause {
-    ghost output = { λ cause. Some (cause_words cause) };
-
-    fn fmt<W: fmt::Write>(&self, f: &mut fmt::Formatter<W>) -> fmt::Result {
-        f.write_str(self.words())
+        })
     }
 }

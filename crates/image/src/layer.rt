@@ -1,4 +1,4 @@
-ghost use Rattle.std.specs.Prelude.{◌≡◌, Some};
+ghost use Rattle.std.specs.Prelude.{Some};
 ghost use Rattle.image.specs.Refusals.{layer_words};
 
 use std::fmt;
@@ -11,22 +11,14 @@ pub enum Layer {
     Image,
 }
 
-impl Layer {
-    fn words(self) -> &'static str
-        ensures { result.now ≡ layer_words self }
-    {
-        match self {
-            Layer::Field => "field",
-            Layer::Record => "record",
-            Layer::Image => "image",
-        }
-    }
-}
-
 impl fmt::Display for Layer {
     ghost output = { λ layer. Some (layer_words layer) };
 
     fn fmt<W: fmt::Write>(&self, f: &mut fmt::Formatter<W>) -> fmt::Result {
-        f.write_str(self.words())
+        f.write_str(match self {
+            Layer::Field => "field",
+            Layer::Record => "record",
+            Layer::Image => "image",
+        })
     }
 }

@@ -30,10 +30,9 @@ impl fmt::Display for ImageRefusal {
     ghost output = { λ refusal. Some (refusal_words refusal) };
 
     fn fmt<W: fmt::Write>(&self, f: &mut fmt::Formatter<W>) -> fmt::Result {
-        let number = self.number();
         match self {
-            ImageRefusal::TooLarge => write!(f, "refused {number}"),
-            ImageRefusal::Malformed(fault) => write!(f, "refused {number}: {fault}"),
+            ImageRefusal::TooLarge => f.write_str("it has more than 65,536 bytes"),
+            ImageRefusal::Malformed(fault) => write!(f, "{fault}"),
         }
     }
 }

@@ -25,11 +25,6 @@ fn report_refusal(rt: &impl Print, refusal: ImageRefusal) -> io::Result<()> {
     let number = refusal.number();
     match refusal {
         ImageRefusal::TooLarge => println!(rt; "refused {number}"),
-        ImageRefusal::Malformed(fault) => {
-            let layer = fault.layer();
-            let cause = fault.cause();
-            let place = fault.place();
-            println!(rt; "refused {number}: {layer}, {cause}, at byte {place}")
-        }
+        ImageRefusal::Malformed(fault) => println!(rt; "refused {number}: {fault}"),
     }
 }

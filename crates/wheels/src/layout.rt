@@ -56,6 +56,7 @@ pub(crate) struct Location {
     placement: u32,
     partition: u16,
     range: PlacementRange,
+    // Kept: a server and a flag, since the server is known whether or not it is added.
     server: u16,
     is_added: bool,
 }
