@@ -1,7 +1,7 @@
 -- Each answer of a put and of a move, from its conditions; and that no answer depends on the order.
 use Rattle.std.proofs.Common.{◌≡◌, ℕ, ◌+◌, ◌<◌, ◌≤◌, Bool, true, false, cond, ◌&&◌, ltb, leb, List, [], ◌∷◌, length, Ok, Err, refl, ap, ◌∙◌, arith}
 use Rattle.std.proofs.lemmas.List.Sums.{sum_by-cons}
-use Rattle.std.proofs.lemmas.Bool.{lt-ltb, le-ltb, le-leb, lt-leb, and_left, and_right, and_from}
+use Rattle.std.proofs.lemmas.Bool.{lt-ltb, le-ltb, le-leb, and_left, and_from}
 use Rattle.names.specs.declared.byte_class.ByteClass.{ByteClass}
 use Rattle.store.specs.Entries.{Entry, Room, holds, is_key, used}
 use Rattle.store.specs.Calls.{put_answer, move_answer}
@@ -23,9 +23,6 @@ module _ (cls : ℕ → ByteClass) (room : Room) (es : List Entry) (p : ℕ) (n 
 module _ (es : List Entry) (p q : ℕ) (n : List ℕ) where
   pub move_absent : holds es p n ≡ false → move_answer es p q n ≡ Err Absent
   move_absent h = let b = and_left _ (leb q 511) h in simp b
-
-  pub move_high : 511 < q → move_answer es p q n ≡ Err Absent
-  move_high h = let b = and_right (holds es p n) _ (lt-leb _ _ h) in simp b
 
   pub move_taken : holds es p n ≡ true → q ≤ 511 → holds es q n ≡ true → move_answer es p q n ≡ Err Taken
   move_taken h l t = let b = and_from _ _ h (le-leb _ _ l) in simp (b, t)

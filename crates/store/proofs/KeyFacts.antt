@@ -1,12 +1,12 @@
 -- Keys, and what stands at the place of one.
-use Rattle.std.proofs.Common.{◌≡◌, ℕ, zero, suc, ◌<◌, ◌≤◌, Bool, true, false, cond, ◌||◌, eqb, List, [], ◌∷◌, length, get_or, take, set, Some, None, Decides, sym, refl, ap, ◌∙◌, ⊎_elim, le_of_suc-le-suc, not-suc-le-zero, arith}
+use Rattle.std.proofs.Common.{◌≡◌, ℕ, zero, suc, ◌<◌, ◌≤◌, Bool, true, false, cond, ◌||◌, eqb, List, [], ◌∷◌, length, get_or, set, Some, None, sym, refl, ap, ◌∙◌, ⊎_elim, le_of_suc-le-suc, not-suc-le-zero, arith}
 use Rattle.std.specs.List.{remove}
 use Rattle.std.specs.Str.{bytes_eq}
 use Rattle.std.specs.List.Sorted.{IsPermutation}
 use Rattle.std.proofs.lemmas.Slice.Eq.{bytes_eq-Decides}
 use Rattle.std.proofs.lemmas.Bool.{and_parts, and_from, eqb-true, eq-eqb, cond-false, or_left, or_right, both_ways, cases_lt}
 use Rattle.store.specs.Entries.{Entry, entry_of, has_key, found, holds, without, index}
-use Rattle.store.proofs.Shuffles.{Perm, perm_fold, perm_fill, perm_in, shuffled_from}
+use Rattle.store.proofs.Shuffles.{Perm, perm_fold, perm_in, shuffled_from}
 
 pub key_true : (p : ℕ) (n : List ℕ) (e : Entry) → has_key p n e ≡ true → (p ≡ e.partition) × (n ≡ e.name)
 key_true p n e h =
@@ -86,19 +86,7 @@ miss (e ∷ es) p n h = by (has_key p n e) refl (miss es p n) h
         let r = f (le_of_suc-le-suc (simp q at k)) in
         record { gives = simp q r.gives; has = simp q r.has; leaves = simp q (ap (λ (l : List Entry). e ∷ l) r.leaves) }
 
--- a test of an entry's key by its two parts
-pub key_tested : (p : ℕ) (n m : List ℕ) (e : Entry) (r : Bool) → e.partition ≡ p → m ≡ e.name → Decides r (m ≡ n) → r ≡ has_key p n e
-key_tested p n m e true h k d = sym (key_from p n e (sym h) (sym (d.0 refl) ∙ k))
-key_tested p n m e false h k d = by (has_key p n e) refl
-  where
-    by : (t : Bool) → has_key p n e ≡ t → false ≡ has_key p n e
-    by true q = d.1 (k ∙ sym (key_true p n e q).1) ∙ sym q
-    by false q = sym q
-
 module _ (es : List Entry) (p : ℕ) (n : List ℕ) (d : Entry) (h : index es p n < length es) where
-  pub leaves_fill : (m : ℕ) → length es ≡ suc m → IsPermutation (without es p n) (take m (set es (index es p n) (get_or es m d)))
-  leaves_fill m e = rw (hit es p n d h).leaves (shuffled_from (perm_fill d es (index es p n) m h e))
-
   pub leaves_set : (x : Entry) → IsPermutation (x ∷ without es p n) (set es (index es p n) x)
   leaves_set x = rw (hit es p n d h).leaves (shuffled_from (perm_in d x es (index es p n) h))
 

@@ -1,13 +1,12 @@
 -- Sound lists of entries: every key is a good one, and none comes twice. cls gives the class of each byte.
 use Rattle.std.proofs.Common.{◌≡◌, ℕ, zero, suc, ◌<◌, ◌≤◌, Bool, true, false, cond, not, ◌&&◌, ◌||◌, leb, List, [], ◌∷◌, ◌++◌, length, get_or, take, set, Some, Option, sym, refl, ap, ◌∙◌, le_of_suc-le-suc, not-suc-le-zero}
 use Rattle.std.specs.List.{list_all, remove}
-use Rattle.std.specs.List.Sorted.{IsPermutation}
 use Rattle.std.proofs.lemmas.Bool.{and_parts, and_from, or_parts, or_from, not-true, not_from_false, both_ways, le-leb, leb-true, cond-true}
 use Rattle.names.specs.Names.{is_kept, is_short}
 use Rattle.names.specs.declared.byte_class.ByteClass.{ByteClass}
 use Rattle.store.specs.Entries.{Entry, has_key, found, holds, without, index, is_key, sound}
-use Rattle.store.proofs.KeyFacts.{key_true, key_self, key_flip, key_both, holds_at, perm_holds}
-use Rattle.store.proofs.Shuffles.{Perm, perm_refl, perm_push, perm_out, perm_in, perm_fill, perm_from, perm_back}
+use Rattle.store.proofs.KeyFacts.{key_true, key_flip, key_both, holds_at, perm_holds}
+use Rattle.store.proofs.Shuffles.{Perm, perm_refl, perm_push, perm_out, perm_in, perm_fill}
 use Rattle.store.proofs.Shuffles.Perm.{none, keep, swap, then}
 
 pub record Heads (cls : ℕ → ByteClass) (e : Entry) (es : List Entry) : Type 0 where
@@ -101,11 +100,6 @@ module _ (cls : ℕ → ByteClass) where
 
   pub key_other : (p q : ℕ) (n : List ℕ) → is_key cls p n ≡ true → q ≤ 511 → is_key cls q n ≡ true
   key_other p q n k h = and_from (leb q 511) (is_short cls n) (le-leb q 511 h) (and_parts (leb p 511) (is_short cls n) k).1
-
-  -- what a look-up finds after a put, and after a take
-  pub found_added : (x : Entry) (es es' : List Entry) → sound cls es' ≡ true → IsPermutation (x ∷ es) es' → found es' x.partition x.name ≡ Some x.number
-  found_added x es es' s h =
-      sym (perm_found x.partition x.name (perm_from (x ∷ es) es' h) (perm_sound (perm_back (perm_from (x ∷ es) es' h)) s)) ∙ cond-true _ _ _ (key_self x)
 
   -- an entry with the key is the only one
   pub index_unique : (es : List Entry) (p : ℕ) (n : List ℕ) (j : ℕ) (d : Entry) → sound cls es ≡ true → j < length es → has_key p n (get_or es j d) ≡ true → index es p n ≡ j

@@ -52,6 +52,7 @@ pub trait Store {
 
     /// Entry `k` of a partition, counted from 0 in the store's order. Its name and then zeros go into the caller's bytes. From the
     /// count on it is absent, and no byte is written.
+    // Kept: the caller lends 32 bytes and is told the length, which is the form that the project asks for.
     fn entry(&self, partition: u16, k: usize, name: &mut [u8; 32]) -> Option<ListedEntry>
         ensures gives { result ≡ listed (slice_get (inside (entries self.now) partition) k) }
         ensures writes { name.new ≡ padded (slice_get (inside (entries self.now) partition) k) name.old };
