@@ -12,7 +12,8 @@ use crate::field::Record;
 use crate::packed::PackedImage;
 use crate::search::{Placed, count_inside, nth_inside, records_end, seek};
 use crate::tag::Tag;
-use crate::write::{close_up, write_field, write_name, write_record};
+use crate::write::{close_up, write_field, write_record};
+use names::padded;
 use store::{LAST_PARTITION, ListedEntry, MoveError, PutError, Store, is_key};
 
 impl PackedImage<'_> {
@@ -125,7 +126,7 @@ impl Store for PackedImage<'_> {
 
     fn entry(&self, partition: u16, k: usize, name: &mut [u8; 32]) -> Option<ListedEntry> {
         let record = nth_inside(self.own_bytes(), partition, k)?;
-        write_name(name, record.name);
+        *name = padded(record.name);
         Some(ListedEntry {
             len: record.name.len() as u8,
             number: record.number,

@@ -1,4 +1,4 @@
-ghost use Rattle.std.specs.Prelude.{◌≡◌, ◌+◌, ◌-◌, ◌<◌, ◌≤◌, ◌++◌, length, drop, replicate};
+ghost use Rattle.std.specs.Prelude.{◌≡◌, ◌+◌, ◌<◌, ◌≤◌, ◌++◌, length, drop, replicate};
 ghost use Rattle.image.specs.Format.{field, record_bytes, weight};
 ghost use Rattle.image.specs.Promises.{entry_in};
 ghost use Rattle.image.specs.Tags.{tag_number};
@@ -37,14 +37,4 @@ pub(crate) fn write_record(part: &mut [u8], added: &Record)
     write_field(first, Tag::Partition, &added.partition.to_be_bytes());
     write_field(second, Tag::Name, added.name);
     write_field(third, Tag::Number, &added.number.to_be_bytes());
-}
-
-/// Writes a name, and zeros behind it.
-pub(crate) fn write_name(out: &mut [u8; 32], name: &[u8])
-    requires { length name.now ≤ 32 }
-    ensures { out.new ≡ name.now ++ replicate (32 - length name.now) 0 }
-{
-    let (front, back) = out.split_at_mut(name.len());
-    front.copy_from_slice(name);
-    back.fill(0);
 }

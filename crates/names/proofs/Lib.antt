@@ -1,2 +1,2 @@
 pub mod Laws
-mod Padding
+mod Zeros

@@ -3,8 +3,10 @@
 
 mod byte_class;
 mod name_refusal;
+mod padding;
 mod short_name;
 
 pub use byte_class::{ByteClass, class_of};
 pub use name_refusal::NameRefusal;
+pub use padding::padded;
 pub use short_name::{MAX_LENGTH, ShortName, is_short, shorten};

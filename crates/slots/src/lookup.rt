@@ -10,8 +10,9 @@ ghost use Rattle.slots.specs.Table.{entry_in};
 use crate::chains::Chain;
 use crate::links::Family;
 use crate::places::{key_chain, rank_chain};
-use crate::slot::{Item, padded};
+use crate::slot::Item;
 use crate::table::SlotTable;
+use names::padded;
 use store::ListedEntry;
 
 impl Item {

@@ -1,4 +1,4 @@
-ghost use Rattle.std.specs.Prelude.{◌≡◌, ◌-◌, ◌≤◌, ◌++◌, length, take, replicate};
+ghost use Rattle.std.specs.Prelude.{◌≡◌, ◌≤◌, length, take};
 
 use crate::links::{Link, Links};
 
@@ -48,14 +48,4 @@ impl Slot {
             next: Link::NONE,
         }; 2],
     };
-}
-
-/// The name and then zeros.
-pub(crate) fn padded(name: &[u8]) -> [u8; 32]
-    requires { length name.now ≤ 32 }
-    ensures { result ≡ name.now ++ replicate (32 - length name.now) 0 }
-{
-    let mut bytes = [0; 32];
-    bytes[0..name.len()].copy_from_slice(name);
-    bytes
 }

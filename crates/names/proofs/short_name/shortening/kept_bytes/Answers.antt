@@ -5,7 +5,7 @@ use Rattle.std.proofs.lemmas.List.{map-id}
 use Rattle.std.proofs.lemmas.List.Sums.{count_by-le-length, length-filter}
 use Rattle.std.proofs.lemmas.Grind.{common_steps}
 use Rattle.names.specs.Names.{class, is_kept}
-use Rattle.names.proofs.Padding.{padded_more}
+use Rattle.names.proofs.Zeros.{padded_more}
 use Rattle.names.proofs.short_name.shortening.kept_bytes.Goals as goal
 
 -- this byte is one of the kept ones, which are no more than the bytes

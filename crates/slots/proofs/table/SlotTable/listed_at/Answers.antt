@@ -1,4 +1,4 @@
-use Rattle.std.proofs.Common.{◌≡◌, ℕ, ◌-◌, ◌++◌, length, get_or, take, replicate, List, Some, Option, sym, ap, ◌∙◌}
+use Rattle.std.proofs.Common.{◌≡◌, ℕ, ◌-◌, arith, ◌++◌, length, get_or, take, replicate, List, Some, Option, sym, ap, ◌∙◌}
 use Rattle.std.specs.List.{slice_get}
 use Rattle.store.specs.Calls.{listed, padded}
 use Rattle.store.specs.Entries.{Entry}
@@ -16,7 +16,7 @@ returns c =
     record {
       gives = ap listed e ∙ ap (λ (m : ℕ). Some (record { len = m; number = s.item.number })) l;
       writes =
-          c.padded.ensures
+          c.padded.ensures.short (omega (arith, c.name.ensures.long, s.item.short))
           ∙ ap (λ (m : List ℕ). m ++ replicate (32 - length m) 0) c.name.ensures.is
           ∙ ap (λ (o : Option Entry). padded o c.args.name.now) (sym e);
     }
