@@ -1,5 +1,5 @@
 -- What a table stands for.
-use Rattle.std.specs.Prelude.{ℕ, List, map, length, take, Some, None, Option}
+use Rattle.std.specs.Prelude.{◌≡◌, ℕ, List, map, length, take, Some, None, Option}
 use Rattle.std.specs.List.{slice_get}
 use Rattle.store.specs.Entries.{Entry, Room}
 use Rattle.slots.specs.declared.table.SlotTable.{SlotTable}
@@ -41,3 +41,8 @@ found_at t i = number_of (slice_get (held t) i)
 -- the caller's slots that the table does not lie in
 abbrev pub beyond : SlotTable → List Slot
 beyond t = t.beyond.now
+
+-- a call changes the table's own slots alone: the capacity and the weights stay, and so do the slots beyond
+pub record ChangesWithin (t t' : SlotTable) : Type 0 where
+  pub keeps : room_of t' ≡ room_of t
+  pub spares : beyond t' ≡ beyond t

@@ -5,7 +5,7 @@ ghost use Rattle.std.specs.Prelude.{◌≡◌, []};
 ghost use Rattle.names.specs.Names.{class};
 ghost use Rattle.store.specs.Calls.{put_answer, PutLeaves, TakeLeaves, move_answer, MoveLeaves};
 ghost use Rattle.store.specs.Entries.{entry_of, found};
-ghost use Rattle.slots.specs.Held.{beyond, entries_by_rank, room_of};
+ghost use Rattle.slots.specs.Held.{ChangesWithin, entries_by_rank, room_of};
 ghost use Rattle.slots.specs.Lawful.{lawful, weighty, within};
 
 mod chains;
@@ -44,8 +44,7 @@ impl Store for SlotTable<'_> {
     fn put(&mut self, partition: u16, name: &[u8], number: u64) -> Result<(), PutError>
         ensures gives { result ≡ put_answer class (room_of self.old) (entries_by_rank self.old) partition name.now }
         ensures leaves { PutLeaves result (entries_by_rank self.old) (entry_of partition name.now number) (entries_by_rank self.new) }
-        ensures keeps { room_of self.new ≡ room_of self.old }
-        ensures spares { beyond self.new ≡ beyond self.old }
+        ensures within { ChangesWithin self.old self.new }
     {
         if !is_key(partition, name) {
             return Err(PutError::BadKey);
@@ -67,8 +66,7 @@ impl Store for SlotTable<'_> {
     fn take(&mut self, partition: u16, name: &[u8]) -> Option<u64>
         ensures gives { result ≡ found (entries_by_rank self.old) partition name.now }
         ensures leaves { TakeLeaves result (entries_by_rank self.old) partition name.now (entries_by_rank self.new) }
-        ensures keeps { room_of self.new ≡ room_of self.old }
-        ensures spares { beyond self.new ≡ beyond self.old }
+        ensures within { ChangesWithin self.old self.new }
     {
         let i = self.place(partition, name)?;
         let number = self.number_at(i);
@@ -84,8 +82,7 @@ impl Store for SlotTable<'_> {
     fn relocate(&mut self, from: u16, to: u16, name: &[u8]) -> Result<(), MoveError>
         ensures gives { result ≡ move_answer (entries_by_rank self.old) from to name.now }
         ensures leaves { MoveLeaves result (entries_by_rank self.old) from to name.now (entries_by_rank self.new) }
-        ensures keeps { room_of self.new ≡ room_of self.old }
-        ensures spares { beyond self.new ≡ beyond self.old }
+        ensures within { ChangesWithin self.old self.new }
     {
         let i = self.place(from, name).ok_or(MoveError::Absent)?;
         if to > LAST_PARTITION {
@@ -116,8 +113,7 @@ impl Store for SlotTable<'_> {
 
     fn clear(&mut self)
         ensures empties { entries_by_rank self.new ≡ [] }
-        ensures keeps { room_of self.new ≡ room_of self.old }
-        ensures spares { beyond self.new ≡ beyond self.old }
+        ensures within { ChangesWithin self.old self.new }
     {
         self.lent.empty();
         self.used = 0;

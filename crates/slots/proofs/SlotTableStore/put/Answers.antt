@@ -43,6 +43,5 @@ returns c =
     record {
       gives = sym (put_added class (room_of t) (held t) _ _ (sym c.if-not-is_key.ensures) h.has (omega (arith, used_held t, c.if-self.false))) ∙ put_answer_perm class (room_of t) c.args.partition c.args.name.now (by_rank_perm t);
       leaves = shuffled_from (then (keep x (perm_back (by_rank_perm t))) (then p (by_rank_perm z)));
-      keeps = ap room_for (items_length t.lent.slots.now c.add.new.self.slots.now t.used c.holding-item.result c.add.ensures.now);
-      spares = refl;
+      within = record { keeps = ap room_for (items_length t.lent.slots.now c.add.new.self.slots.now t.used c.holding-item.result c.add.ensures.now); spares = refl };
     }

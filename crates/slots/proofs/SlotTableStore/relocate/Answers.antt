@@ -84,6 +84,5 @@ returns c =
     record {
       gives = sym (move_moved (held t) c.args.from c.args.to c.args.name.now (present t _ _ _ k.is k.used) c.if-to-gt-LAST_PARTITION.false f) ∙ move_answer_perm c.args.from c.args.to c.args.name.now (by_rank_perm t);
       leaves = shuffled_from (subst (λ (o : Option ℕ). Perm (x o ∷ without (entries_by_rank t) c.args.from c.args.name.now) (entries_by_rank z)) g p);
-      keeps = ap room_for (items_length c.rewrite.new.self.slots.now c.rewrite-2.new.self.slots.now c.in_ok-i.i _ c.rewrite-2.ensures.now ∙ items_length t.lent.slots.now c.rewrite.new.self.slots.now c.heir-j.result.0 _ c.rewrite.ensures.now);
-      spares = refl;
+      within = record { keeps = ap room_for (items_length c.rewrite.new.self.slots.now c.rewrite-2.new.self.slots.now c.in_ok-i.i _ c.rewrite-2.ensures.now ∙ items_length t.lent.slots.now c.rewrite.new.self.slots.now c.heir-j.result.0 _ c.rewrite.ensures.now); spares = refl };
     }

@@ -54,6 +54,5 @@ returns c =
     record {
       gives = sym (k.gives ∙ c.number_at-number.ensures);
       leaves = shuffled_from (then (perm_without class c.args.partition c.args.name.now (perm_back (by_rank_perm t)) (lawful t)) (then (closed_leaves t _ _ _ k.is k.used d (items c.rewrite.new.self.slots.now) eq (items c.remove.new.self.slots.now) (c.remove.ensures.now d.item)) (by_rank_perm z)));
-      keeps = ap room_for (c.remove.ensures.size ∙ items_length t.lent.slots.now c.rewrite.new.self.slots.now c.heir-j.result.0 _ c.rewrite.ensures.now);
-      spares = refl;
+      within = record { keeps = ap room_for (c.remove.ensures.size ∙ items_length t.lent.slots.now c.rewrite.new.self.slots.now c.heir-j.result.0 _ c.rewrite.ensures.now); spares = refl };
     }
