@@ -1,8 +1,7 @@
-use crate::calls::{find, list, put, take};
+use crate::trial::Trial;
 use image::PackedImage;
 use slots::{Slot, SlotTable};
 use std::io;
-use store::Store;
 
 /// Two entries with names of one byte weigh 40: a buffer of 39 bytes is full for the second.
 pub(crate) fn image_limits(rt: &impl Print) -> io::Result<()> {
@@ -16,15 +15,17 @@ pub(crate) fn image_limits(rt: &impl Print) -> io::Result<()> {
 
 /// Puts two entries into an image, prints its bytes, and takes the first out again.
 fn two_entries(rt: &impl Print, bytes: &mut [u8]) -> io::Result<()> {
-    let mut image = PackedImage::open(bytes);
-    put(rt, &mut image, 2, "A", 7)?;
-    put(rt, &mut image, 2, "B", 8)?;
-    let bytes = image.into_bytes();
+    let store = PackedImage::open(bytes);
+    let mut trial = Trial { rt, store };
+    trial.put(2, "A", 7)?;
+    trial.put(2, "B", 8)?;
+    let bytes = trial.into_store().into_bytes();
     dump(rt, bytes)?;
-    let mut image = PackedImage::open(bytes);
-    list(rt, &image, 2)?;
-    take(rt, &mut image, 2, "A")?;
-    dump(rt, image.into_bytes())
+    let store = PackedImage::open(bytes);
+    let mut trial = Trial { rt, store };
+    trial.list(2)?;
+    trial.take(2, "A")?;
+    dump(rt, trial.into_store().into_bytes())
 }
 
 fn dump(rt: &impl Print, bytes: &[u8]) -> io::Result<()> {
@@ -39,11 +40,12 @@ fn dump(rt: &impl Print, bytes: &[u8]) -> io::Result<()> {
 pub(crate) fn refused_image(rt: &impl Print) -> io::Result<()> {
     println!(rt; "an image that is refused:")?;
     let mut bytes = [0, 0, 9, 0, 0, 0, 0, 0, 0, 0, 0, 0, 0, 0, 0, 0, 0, 0, 0, 0];
-    let mut image = PackedImage::open(&mut bytes);
-    put(rt, &mut image, 2, "A", 7)?;
-    list(rt, &image, 2)?;
-    image.clear();
-    dump(rt, image.into_bytes())
+    let store = PackedImage::open(&mut bytes);
+    let mut trial = Trial { rt, store };
+    trial.put(2, "A", 7)?;
+    trial.list(2)?;
+    trial.clear();
+    dump(rt, trial.into_store().into_bytes())
 }
 
 /// The most slots, and one more.
@@ -60,8 +62,9 @@ fn over(rt: &impl Print, slots: &mut [Slot]) -> io::Result<()> {
         Ok(()) => println!(rt; "{} slots: accepted", slots.len())?,
         Err(refusal) => println!(rt; "{} slots: refused {}", slots.len(), refusal.number())?,
     }
-    let mut table = SlotTable::new(slots);
-    put(rt, &mut table, 2, "A", 7)?;
-    find(rt, &table, 2, "A")?;
-    list(rt, &table, 2)
+    let store = SlotTable::new(slots);
+    let mut trial = Trial { rt, store };
+    trial.put(2, "A", 7)?;
+    trial.find(2, "A")?;
+    trial.list(2)
 }

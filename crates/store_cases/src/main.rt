@@ -1,33 +1,34 @@
 // The calls of a store, over the slot table and the packed image alike. The file `stdout` has what each must answer, worked out by hand.
 #![tactic(auto)]
 
-mod calls;
 mod limits;
+mod trial;
 
-use calls::{bad_keys, basics, fill_up, moves};
 use image::PackedImage;
 use limits::{image_limits, refused_image, slot_limits};
 use slots::{Slot, SlotTable};
 use std::io;
 use store::Store;
+use trial::Trial;
 
 /// Three entries with names of one byte fill either store.
 fn main(rt: HostRuntime) -> anyhow::Result<()> {
     let mut slots = [Slot::EMPTY; 3];
     println!(rt; "slot table:")?;
-    exercise(&rt, &mut SlotTable::new(&mut slots))?;
+    exercise(&rt, SlotTable::new(&mut slots))?;
     let mut bytes = [0; 60];
     println!(rt; "packed image:")?;
-    exercise(&rt, &mut PackedImage::open(&mut bytes))?;
+    exercise(&rt, PackedImage::open(&mut bytes))?;
     image_limits(&rt)?;
     refused_image(&rt)?;
     slot_limits(&rt)
 }
 
 /// The same calls over any store that holds three entries with names of one byte, and no more.
-fn exercise<S: Store>(rt: &impl Print, store: &mut S) -> io::Result<()> {
-    basics(rt, store)?;
-    fill_up(rt, store)?;
-    moves(rt, store)?;
-    bad_keys(rt, store)
+fn exercise<S: Store + Drop>(rt: &impl Print, store: S) -> io::Result<()> {
+    let mut trial = Trial { rt, store };
+    trial.basics()?;
+    trial.fill_up()?;
+    trial.moves()?;
+    trial.bad_keys()
 }
