@@ -53,7 +53,7 @@ fn read_content<'a>(bytes: &'a [u8], tag: Tag, place: usize) -> Result<Field<'a>
     let [_tag, high, low, rest @ ..] = bytes else {
         return Err(fault(FieldCheck::NoLength));
     };
-    // Kept: by u16::from_be_bytes a find among 1,000 entries takes 7,012 ns, and by this sum 5,736 ns.
+    // Kept: by `u16::from_be_bytes` a find among 1,000 entries took 22 % longer, the rest of the code being the same.
     let len = usize::from(*high) * 256 + usize::from(*low);
     if !tag.allows(len) {
         return Err(fault(FieldCheck::Length));

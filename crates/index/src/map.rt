@@ -7,7 +7,7 @@ use crate::range::PlacementRange;
 use std::fmt;
 
 /// A set of partition numbers that splitting can lead to, in an array of eight words by value.
-#[derive(Clone, Copy, PartialEq, Eq, Debug)]
+#[derive(Clone, Copy, Debug)]
 pub struct Map {
     set: PartitionSet,
     ghost lawful: { ∥ IsMap (bits set.words) ∥₁ },

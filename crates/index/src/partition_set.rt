@@ -7,7 +7,7 @@ ghost use Rattle.index.specs.Values.{members};
 use std::array;
 
 /// Any set of partition numbers, a bit for each number below 512.
-#[derive(Clone, Copy, PartialEq, Eq, Debug, Default)]
+#[derive(Clone, Copy, Debug)]
 pub struct PartitionSet {
     words: [u64; 8],
 }

@@ -6,7 +6,7 @@ use std::fmt;
 
 /// The set-up of a registry: how many servers there are at first, how many partitions each has room for, and how many entries a partition
 /// must pass before it is split.
-#[derive(Clone, Copy, PartialEq, Eq, Debug)]
+#[derive(Clone, Copy, Debug)]
 pub struct Settings {
     servers: u8,
     per_server: u8,

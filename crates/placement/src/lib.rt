@@ -25,7 +25,7 @@ pub trait Placement {
 }
 
 /// The first four bytes of the name's MD5 digest, the most significant first.
-#[derive(Clone, Copy, PartialEq, Eq, Debug, Default)]
+#[derive(Clone, Copy, Debug)]
 pub struct DigestPlacement;
 
 impl Placement for DigestPlacement {
@@ -39,7 +39,7 @@ impl Placement for DigestPlacement {
 }
 
 /// The first four bytes of the name, the most significant first, with 0 for a missing byte.
-#[derive(Clone, Copy, PartialEq, Eq, Debug, Default)]
+#[derive(Clone, Copy, Debug)]
 pub struct PrefixPlacement;
 
 impl Placement for PrefixPlacement {

@@ -63,7 +63,7 @@ fn time<F: FnMut(u32) -> bool>(rt: &HostRuntime, count: u32, mut call: F) -> io:
 /// Puts every entry.
 pub(crate) fn fill<S: Store>(store: &mut S, count: u32) {
     for i in 0..count {
-        put_entry(store, i);
+        put_entry(store, scattered(i, count));
     }
 }
 

@@ -1,6 +1,11 @@
--- How bytes are printed.
-use Rattle.std.specs.Prelude.{ℕ, ◌/◌, ◌%◌, Bool, true, cond, not, ◌&&◌, ◌||◌, List, [], ◌∷◌, ◌==◌, nat_le}
+-- Lines of text, and how bytes are printed.
+use Rattle.std.specs.Prelude.{ℕ, ◌-◌, ◌/◌, ◌%◌, Bool, true, cond, not, ◌&&◌, ◌||◌, List, [], ◌∷◌, length, take, ◌==◌, nat_eq, nat_le}
+use Rattle.std.specs.List.{ends_with}
 use Rattle.std.specs.Fmt.{digit_glyph}
+
+-- a line without the newline at its end
+abbrev pub without_newline : List ℕ → List ℕ
+without_newline line = cond (ends_with nat_eq line (10 ∷ [])) (take (length line - 1) line) line
 
 -- printable ASCII, but for the percent sign and the quote
 abbrev pub plain : ℕ → Bool

@@ -1,7 +1,9 @@
 // Places sensor names: the short form of each, its two placements, and where each placement belongs in a map. Says what a packed image holds.
 #![tactic(auto)]
 
+ghost use Rattle.std.specs.Prelude.{◌≡◌};
 ghost use Rattle.std.specs.Iterator.{IsFinite};
+ghost use Rattle.wheels.specs.Texts.{without_newline};
 
 mod command;
 mod fault;
@@ -117,8 +119,10 @@ fn place_all<'a, I: Iterator<Item = &'a [u8]> + Drop>(
     Ok(())
 }
 
-/// A line without its end.
-fn without_end(line: &[u8]) -> &[u8] {
+/// A line without the newline at its end.
+fn without_end(line: &[u8]) -> &[u8]
+    ensures { result.now ≡ without_newline line.now }
+{
     line.strip_suffix(b"\n").unwrap_or(line)
 }
 
