@@ -1,7 +1,7 @@
 use std::fmt;
 
 /// A digest as 32 hexadecimal digits.
-// Kept: `digest_speed` has the same, since the two programs share no crate but the digest's own, which answers plain bytes.
+// Kept: `digest_speed` has the same, since the two programs share only `placement`, where a type that prints would be public for them alone.
 #[derive(Clone, Copy)]
 pub(crate) struct Digest(pub(crate) [u8; 16]);
 

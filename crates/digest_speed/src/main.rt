@@ -6,7 +6,7 @@ use std::time::{Duration, Instant};
 use std::{env, fmt, io};
 
 // A digest, which prints in hexadecimal.
-// Kept: `cases` has the same, since the two programs share no crate but the digest's own, which answers plain bytes.
+// Kept: `cases` has the same, since the two programs share only `placement`, where a type that prints would be public for them alone.
 #[derive(Clone, Copy)]
 struct Digest([u8; 16]);
 
@@ -32,8 +32,8 @@ fn time(rt: &HostRuntime, message: &mut [u8], times: u32) -> io::Result<Duration
     let start = Instant::now(rt)?;
     for _ in 0..times {
         let digest = md5(message);
-        for (byte, next) in message.iter_mut().zip(&digest[..8]) {
-            *byte = *next;
+        if let Some((front, _)) = message.split_at_mut_checked(8) {
+            front.copy_from_slice(&digest[..8]);
         }
     }
     start.elapsed(rt)

@@ -36,6 +36,7 @@ fn read_field<'a>(bytes: &'a [u8], tag: Tag, place: usize) -> Result<Field<'a>, 
     Ok(read_content(bytes, tag, place)?)
 }
 
+// Kept: three functions hand on bytes, tag and place, and a struct of them would be made and taken apart in each.
 fn read_tag(bytes: &[u8], tag: Tag, place: usize) -> Result<(), RecordFault>
     ensures { TagRead result tag place bytes.now }
 {

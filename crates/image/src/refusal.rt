@@ -16,6 +16,7 @@ pub enum ImageRefusal {
 
 impl ImageRefusal {
     /// The number of the refusal in answers.
+    // Kept: by a match, since a variant that holds a fault has no discriminant to read.
     pub fn number(self) -> u8
         ensures { result ≡ refusal_number self }
     {

@@ -25,6 +25,7 @@ impl SettingsRefusal {
     ghost use Rattle.index.specs.Setting.{refusal_number};
 
     /// The number of the refusal in answers.
+    // Kept: each refusal has this call, since a trait for it would have to stand in a crate below all of them.
     pub fn number(self) -> u8
         ensures { result ≡ refusal_number self }
     {

@@ -17,6 +17,7 @@ pub enum NameRefusal {
 
 impl NameRefusal {
     /// The number of the refusal in answers.
+    // Kept: each refusal has this call, since a trait for it would have to stand in a crate below all of them.
     pub fn number(self) -> u8
         ensures { result ≡ refusal_number self }
     {

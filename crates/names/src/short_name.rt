@@ -15,7 +15,7 @@ pub const MAX_LENGTH: usize = 32;
 /// A name's short form, which a contract sees as the list of its bytes. Names are the same where their short forms are equal.
 #[derive(Clone, Copy, PartialEq, Eq, Debug)]
 pub struct ShortName {
-    // Kept: an array and a length, since no crate allocates and a name is a value to copy.
+    // Kept: an array and a length, since no library crate allocates and a name is a value to copy.
     bytes: [u8; MAX_LENGTH],
     len: u8,
 }

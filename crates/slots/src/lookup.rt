@@ -33,6 +33,7 @@ impl Item {
     }
 
     /// Whether the item has the key.
+    // Kept: a record of an image has the same test, over a type that no crate below both knows.
     fn has_key(&self, partition: u16, name: &[u8]) -> bool
         ensures { result ≡ has_key partition name.now (entry_in self.now) }
     {
@@ -124,6 +125,7 @@ impl SlotTable<'_> {
     }
 
     /// The slot of entry k of a partition.
+    // Kept: an `if`, since what it answers is an `Option` already.
     pub(crate) fn kth(&self, partition: u16, k: usize) -> Option<usize>
         ensures hit { IfSome result (λ i. (i < self.now.used) × (slice_get (inside (entries_by_rank self.now) partition) k ≡ slice_get (held self.now) i)) }
         ensures miss { IfNone result (slice_get (inside (entries_by_rank self.now) partition) k ≡ None) }

@@ -21,6 +21,7 @@ pub enum SlotsRefusal {
 
 impl SlotsRefusal {
     /// The number of the refusal in answers.
+    // Kept: each refusal has this call, since a trait for it would have to stand in a crate below all of them.
     pub fn number(self) -> u8
         ensures { result ≡ refusal_number self }
     {
@@ -79,7 +80,7 @@ impl<'a> SlotTable<'a> {
         ensures room { room_of result ≡ room_for (slots_taken (length slots.old)) }
         ensures spares { beyond result ≡ drop (slots_taken (length slots.old)) slots.old }
     {
-        let n = if slots.len() <= MOST { slots.len() } else { 0 };
+        let n = SlotTable::check(slots).map_or(0, |()| slots.len());
         let (slots, beyond) = slots.split_at_mut(n);
         SlotTable {
             lent: Lent::over(slots),

@@ -4,7 +4,8 @@ use crate::links::{Link, Links};
 
 /// An entry in its slot: its partition, the first `len` bytes of `name`, its record number, and its rank among the entries of its
 /// partition. A slot whose item has `len` 0 is vacant.
-// Kept: a slot is memory of one size that the caller lends, so it has room for the longest name and says how much of it is in use.
+// Kept: a slot is lent memory of one size, so it has room for the longest name and says how much is in use, and 0 where it is vacant: an
+// `Option` of an item would have its tag beside it in each slot.
 #[derive(Clone, Copy)]
 pub(crate) struct Item {
     pub(crate) partition: u16,

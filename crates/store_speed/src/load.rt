@@ -1,23 +1,23 @@
-use crate::clock::since;
 use std::io;
-use std::time::Instant;
+use std::time::{Duration, Instant};
 use store::Store;
 
 /// How long the calls of one kind took, and how many of them were answered as they should be.
 #[derive(Clone, Copy, Default)]
 pub(crate) struct Spent {
-    pub(crate) nanoseconds: u64,
+    pub(crate) time: Duration,
     pub(crate) right: u64,
 }
 
 impl Spent {
     pub(crate) fn add(&mut self, other: Spent) {
-        self.nanoseconds = self.nanoseconds.saturating_add(other.nanoseconds);
+        self.time = self.time.saturating_add(other.time);
         self.right = self.right.saturating_add(other.right);
     }
 }
 
 /// The kinds of calls, in the order in which `round` makes them.
+// Kept: the names stand apart from the times and counts, which each round makes anew.
 pub(crate) const CALLS: [&str; 6] = ["put", "find", "count", "entry k", "move", "take"];
 
 /// Makes each call for every entry: the store is filled, and emptied again. A move takes an entry half way round.
@@ -51,13 +51,14 @@ fn time<F: FnMut(u32) -> bool>(rt: &HostRuntime, count: u32, mut call: F) -> io:
 {
     let start = Instant::now(rt)?;
     let mut right = 0u64;
+    // Kept: after `filter` and `count` it stays open that the call may be made again.
     for turn in 0..count {
         if call(scattered(turn, count)) {
             right = right.saturating_add(1);
         }
     }
-    let nanoseconds = since(rt, start)?;
-    Ok(Spent { nanoseconds, right })
+    let time = start.elapsed(rt)?;
+    Ok(Spent { time, right })
 }
 
 /// Puts every entry.

@@ -1,7 +1,6 @@
 // Measures the calls of the stores at several numbers of entries.
 #![tactic(auto)]
 
-mod clock;
 mod load;
 mod measure;
 

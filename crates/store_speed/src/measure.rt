@@ -1,4 +1,3 @@
-use crate::clock::since;
 use crate::load::{CALLS, Spent, fill, round};
 use image::PackedImage;
 use slots::{Slot, SlotTable};
@@ -52,7 +51,11 @@ fn measure<S: Store>(rt: &HostRuntime, store: &mut S, count: u32, rounds: u32) -
     let made = u64::from(rounds).saturating_mul(u64::from(count));
     let mut right = 0u64;
     for (name, total) in CALLS.iter().zip(totals) {
-        let mean = total.nanoseconds.checked_div(made).unwrap_or(0);
+        let mean = total
+            .time
+            .as_nanos()
+            .checked_div(u128::from(made))
+            .unwrap_or(0);
         println!(rt; "  {name}: {mean} ns")?;
         right = right.saturating_add(total.right);
     }
@@ -63,6 +66,6 @@ fn measure<S: Store>(rt: &HostRuntime, store: &mut S, count: u32, rounds: u32) -
 fn opening(rt: &HostRuntime, image: &[u8]) -> io::Result<()> {
     let start = Instant::now(rt)?;
     let accepted = PackedImage::check(image).is_ok();
-    let spent = since(rt, start)?;
-    println!(rt; "  check: {} us, accepted {accepted}", spent / 1_000)
+    let spent = start.elapsed(rt)?.as_micros();
+    println!(rt; "  check: {spent} us, accepted {accepted}")
 }

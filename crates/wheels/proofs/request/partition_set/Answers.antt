@@ -14,13 +14,3 @@ loop-word-preserved c =
       all_write_more words c.in-Some.word.now _ reads c.loop-word.invariant.0,
       λ q. some_writes_more words c.in-Some.word.now _ q _ _ reads (c.loop-word.invariant.1 q) (c.add.ensures.after q),
     )
-
-pub returns : goal.returns
-returns c =
-    let exit = run_of_exit _ _ _ _ c.loop-word.yielded_by _ c.in-None.ensures.steps in
-    let cut = (c.split-word-items.ensures.runs exit.0 (seen _) (exit.1 ∙ c.into_iter-word-iterator.ensures.into_iter_gives)).2 (lit< tt) ((λ q e. e), (λ w o h. h)) in (
-      map (λ w. w.now) c.loop-word.yielded,
-      cut.0.2 exit.2 ∙ ap (λ (xs : List (Bor (List ℕ))). join_with_byte 44 (map (λ w. w.now) xs)) exit.3.0,
-      c.loop-word.invariant.0,
-      c.loop-word.invariant.1,
-    )

@@ -1,4 +1,4 @@
-use Rattle.std.proofs.Common.{◌≡◌, ℕ, zero, suc, ◌+◌, ◌-◌, ◌<◌, cond, ◌∷◌, ◌++◌, codes, decimal, sym, refl, ap, ◌∙◌, arith}
+use Rattle.std.proofs.Common.{◌≡◌, ℕ, zero, suc, ◌+◌, ◌-◌, ◌<◌, cond, ◌∷◌, ◌++◌, decimal, sym, refl, ap, ◌∙◌, arith}
 use Rattle.std.proofs.lemmas.Bool.{cond-true, cond-false}
 use Rattle.std.proofs.Output.{writes_in_calls_nil, has_written_append, has_written_of_eq, has_written_to_eq}
 use Rattle.index.specs.Numbers.{Numbers}
@@ -36,12 +36,3 @@ loop-p-preserved g c plain =
           has_written_to_eq took start _ c.loop-p.f c.if-has.f w.f-is
           (has_written_of_eq took start _ _ c.loop-p.f (sym (more ∙ cond-false (m p) _ _ (sym w.if-has.ensures))) so_far)
     ]
-
-pub returns : goal.returns
-returns g c plain ok =
-    let took = g.W.Write.write_str_gives in
-    let m = has c.args.self.now in
-    let first = c.in_ok-write_str.ensures.writes plain ok in
-    let all : c.loop-p.p-counter - 1 ≡ 511 = omega arith in
-    has_written_of_eq took c.args.f.now _ _ c.loop-p.f (ap (λ (k : ℕ). codes "0" ++ listed m k) all)
-    (has_written_append took c.args.f.now (codes "0") c.write_str.new.self _ c.loop-p.f first (c.loop-p.invariant first.plain))

@@ -1,7 +1,6 @@
-use Rattle.std.proofs.Common.{◌<◌, length, sym, ◌∙◌, rules, tests, arith}
+use Rattle.std.proofs.Common.{◌<◌, length, rules, tests, arith}
 use Rattle.std.proofs.lemmas.Iterator.{YieldsList-from_slice}
-use Rattle.std.proofs.lemmas.Iterator.Consumers.{YieldsList-at, YieldsList-from_copied, YieldsList-from_filter, YieldsList-turn, YieldsList-end}
-use Rattle.std.proofs.lemmas.List.{map-id}
+use Rattle.std.proofs.lemmas.Iterator.Consumers.{YieldsList-at, YieldsList-from_copied, YieldsList-from_filter, YieldsList-turn}
 use Rattle.std.proofs.lemmas.List.Sums.{count_by-le-length, length-filter}
 use Rattle.std.proofs.lemmas.Grind.{common_steps}
 use Rattle.names.specs.Names.{class, is_kept}
@@ -26,14 +25,3 @@ loop-byte-preserved c =
       padded = rw (c.loop-byte.invariant.padded, c.loop-byte.invariant.counted) (padded_more _ c.in-Some.byte room);
       counted = grind (arith, common_steps);
     }
-
--- the loop has seen just the kept bytes
-pub returns : goal.returns
-returns c =
-    let seen = YieldsList-end
-    (YieldsList-at c.into_iter-byte-iterator.ensures.into_iter_gives
-    (YieldsList-from_filter _ (is_kept class)
-    (YieldsList-at c.filter-byte-items.ensures.source (YieldsList-from_copied (YieldsList-from_slice c.args.name.now cc)))
-    c.filter-byte-items.ensures.closure (λ x r q k. search (rules, tests))))
-    c.loop-byte.yielded _ c.loop-byte.yielded_by _ _ c.in-None.is c.next.ensures.steps in
-    rw (c.loop-byte.invariant.padded, c.loop-byte.invariant.counted, sym (map-id _) ∙ seen.0)
