@@ -14,7 +14,7 @@ use Rattle.image.specs.declared.fault.RecordFault.{RecordFault}
 use Rattle.image.specs.declared.fault.ImageFault.{ImageFault}
 use Rattle.image.specs.declared.fault.ImageFault.TheVariants.{Record, SecondEntry, NonZeroByte}
 use Rattle.image.specs.declared.refusal.ImageRefusal.TheVariants.{Malformed}
-use Rattle.image.proofs.Fields.{some_none}
+use Rattle.std.proofs.lemmas.Option.{none-some}
 use Rattle.image.proofs.Encoding.{Whole, whole_from, spelled, record_spelled, spelled_back, key_read, number_read}
 use Rattle.image.proofs.FirstFault.{record_some, record_none, first_fault}
 use Rattle.image.proofs.Images.{listed_back, fault_step, packed_listed, packed_fine, packed_lists}
@@ -130,4 +130,4 @@ module _ (bs : List ℕ) (small : (i : ℕ) → get_or bs i 0 < 256) (few : leng
   checked_fine h = (few, packed_listed bs small h, λ es p. sym (packed_lists bs es p))
 
   pub checked_fault : (f : ImageFault) → fault class bs ≡ Some f → Checked class (Err (Malformed f)) bs
-  checked_fault f h = (few, (λ es p. some_none f (sym h ∙ packed_fine bs es p)), first_fault bs small f h)
+  checked_fault f h = (few, (λ es p. none-some f (sym (packed_fine bs es p) ∙ h)), first_fault bs small f h)

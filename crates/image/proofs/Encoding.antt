@@ -8,7 +8,8 @@ use Rattle.names.specs.Names.{class, is_short}
 use Rattle.store.specs.Entries.{Entry, is_key}
 use Rattle.image.specs.Format.{field, eight_bytes, record_bytes, number_fits, weight}
 use Rattle.image.specs.Reading.{content_length, content, from_two, from_eight, fault_at, record_fault, read_entry, name_field, number_field, next_record}
-use Rattle.image.proofs.Fields.{Good, good_from, good_fault, some_none}
+use Rattle.image.proofs.Fields.{Good, good_from, good_fault}
+use Rattle.std.proofs.lemmas.Option.{none-some}
 
 -- the record of an entry and what follows it, byte by byte
 abbrev pub spelled : Entry → List ℕ → List ℕ
@@ -19,7 +20,7 @@ record_spelled e rest = ap (λ l. 1 ∷ 0 ∷ 2 ∷ e.partition / 256 ∷ e.part
 
 first_none : {X : Type 0} (a b : Option X) → option_or a b ≡ None → (a ≡ None) × (b ≡ None)
 first_none None b h = (refl, h)
-first_none (Some x) b h = absurd (some_none x h)
+first_none (Some x) b h = absurd (none-some x (sym h))
 
 -- the three fields of a record are without a fault
 pub record Whole (bs : List ℕ) : Type 0 where

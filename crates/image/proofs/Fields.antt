@@ -1,9 +1,10 @@
 -- One field: its checks, and what a field without a fault has.
-use Rattle.std.proofs.Common.{◌≡◌, ℕ, ◌+◌, ◌≤◌, ◌⊎◌, inl, inr, Bool, true, false, cond, eqb, leb, List, length, get_or, drop, Some, None, Option, refl, arith}
+use Rattle.std.proofs.Common.{sym, ◌≡◌, ℕ, ◌+◌, ◌≤◌, ◌⊎◌, inl, inr, Bool, true, false, cond, eqb, leb, List, length, get_or, drop, Some, None, Option, refl, arith}
 use Rattle.std.specs.Option.{option_map, ok_or, MatchOption}
 use Rattle.std.proofs.lemmas.List.{length-take-le, length-drop}
 use Rattle.std.proofs.lemmas.Bool.{le-leb, leb-true, eq-eqb, eqb-true, and_parts}
 use Rattle.names.specs.Names.{class}
+use Rattle.std.proofs.lemmas.Option.{none-some}
 use Rattle.image.specs.Reading.{content_length, content, length_fits, content_fits, failed, field_fault, has_tag, fault_at}
 use Rattle.image.specs.Promises.{Says, ContentRead}
 use Rattle.image.specs.Tags.{tag_number}
@@ -12,20 +13,17 @@ use Rattle.image.specs.declared.tag.Tag.{Tag}
 use Rattle.image.specs.declared.fault.RecordFault.TheVariants.{Field as InField, Tag as NoTag}
 use Rattle.image.specs.declared.fault.FieldCheck.TheVariants.{NoLength, Length, NoContent, Content}
 
-pub some_none : {X : Type 0} (x : X) → Some x ≡ None → ⊥
-some_none x h = let z : ◌≡◌ {A = ℕ} 0 1 = cc in omega arith
-
 pub option_cases : {X : Type 0} (o : Option X) → (o ≡ None) ⊎ ((x : X) × (o ≡ Some x))
 option_cases None = inl refl
 option_cases (Some x) = inr (x, refl)
 
 pub cond_none : {X : Type 0} (b : Bool) (o : Option X) (x : X) → cond b o (Some x) ≡ None → (b ≡ true) × (o ≡ None)
 cond_none true o x h = (refl, h)
-cond_none false o x h = absurd (some_none x h)
+cond_none false o x h = absurd (none-some x (sym h))
 
 pub mapped_none : {X Y : Type 0} (f : X → Y) (o : Option X) → option_map f o ≡ None → o ≡ None
 mapped_none f None h = refl
-mapped_none f (Some x) h = absurd (some_none _ h)
+mapped_none f (Some x) h = absurd (none-some _ (sym h))
 
 module _ (t place : ℕ) (bs : List ℕ) (fits : length_fits t (content_length bs) ≡ true) (room : 3 + content_length bs ≤ length bs) where
   pub field_fine : content_fits class t (content bs) ≡ true → field_fault class t place bs ≡ None

@@ -12,7 +12,8 @@ use Rattle.image.specs.Theorems.{Wrong, First}
 use Rattle.image.specs.declared.fault.RecordFault.{RecordFault}
 use Rattle.image.specs.declared.fault.ImageFault.{ImageFault}
 use Rattle.image.specs.declared.fault.ImageFault.TheVariants.{Record, SecondEntry, NonZeroByte}
-use Rattle.image.proofs.Fields.{some_none, option_cases}
+use Rattle.image.proofs.Fields.{option_cases}
+use Rattle.std.proofs.lemmas.Option.{none-some}
 use Rattle.image.proofs.Encoding.{whole_from, record_spelled, spelled_back, key_read, number_read}
 use Rattle.image.proofs.LawfulLists.{Lawful, lawful_push}
 use Rattle.image.proofs.Listing.{name_long}
@@ -21,7 +22,7 @@ some_same : {X : Type 0} (x y : X) → Some x ≡ Some y → x ≡ y
 some_same x y h = cc
 
 non_zero_shape : (place : ℕ) (bs : List ℕ) (f : ImageFault) → non_zero place bs ≡ Some f → (p : ℕ) × (f ≡ NonZeroByte p)
-non_zero_shape place [] f h = absurd (some_none f (sym h))
+non_zero_shape place [] f h = absurd (none-some f h)
 non_zero_shape place (b ∷ bs) f h =
     ⊎_elim
     (λ k. non_zero_shape (place + 1) bs f (sym (cond-true (eqb b 0) (non_zero (place + 1) bs) (Some (NonZeroByte place)) k) ∙ h))
@@ -53,7 +54,7 @@ at_once seen place bs f a w = record {
 }
 
 first_from : (turns : ℕ) (seen : List Entry) (place : ℕ) (bs : List ℕ) (f : ImageFault) → length bs ≤ turns → ((i : ℕ) → get_or bs i 0 < 256) → Lawful seen → fault_from class turns seen place bs ≡ Some f → From seen place bs f
-first_from zero seen place bs f l small a h = absurd (some_none f (sym h))
+first_from zero seen place bs f l small a h = absurd (none-some f h)
 first_from (suc turns) seen place bs f l small a h =
     let e = read_entry bs in
     let n = weight (content_length (name_field bs)) in

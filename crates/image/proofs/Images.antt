@@ -11,7 +11,8 @@ use Rattle.image.specs.Reading.{content_length, has_tag, record_fault, read_entr
 use Rattle.image.specs.declared.fault.RecordFault.{RecordFault}
 use Rattle.image.specs.declared.fault.ImageFault.{ImageFault}
 use Rattle.image.specs.declared.fault.ImageFault.TheVariants.{Record, SecondEntry, NonZeroByte}
-use Rattle.image.proofs.Fields.{some_none, cond_none}
+use Rattle.image.proofs.Fields.{cond_none}
+use Rattle.std.proofs.lemmas.Option.{none-some}
 use Rattle.image.proofs.Encoding.{whole_from, whole_fault, spelled, record_spelled, whole_spelled, entry_spelled, rest_spelled, spelled_back, key_read, number_read}
 use Rattle.image.proofs.LawfulLists.{Lawful, lawful_parts, lawful_push, lawful_at, holds_front}
 use Rattle.image.proofs.Listing.{listed_none, listed_step}
@@ -62,10 +63,10 @@ listed_encoded es k h = listed_back es (replicate k 0) (length (encoded es ++ re
 -- an image without a fault is written
 record_none : (o : Option RecordFault) (x : Option ImageFault) → option_or (option_map Record o) x ≡ None → (o ≡ None) × (x ≡ None)
 record_none None x h = (refl, h)
-record_none (Some f) x h = absurd (some_none _ h)
+record_none (Some f) x h = absurd (none-some _ (sym h))
 
 second_none : {X : Type 0} (b : Bool) (x : X) (o : Option X) → cond b (Some x) o ≡ None → (b ≡ false) × (o ≡ None)
-second_none true x o h = absurd (some_none x h)
+second_none true x o h = absurd (none-some x (sym h))
 second_none false x o h = (refl, h)
 
 -- bs stands behind the records of the entries seen, and has those of es and then zeros

@@ -10,7 +10,7 @@ use Rattle.store.proofs.SoundFacts.{sound_parts, sound_from, perm_sound}
 use Rattle.image.specs.Format.{number_fits, Packed}
 use Rattle.image.specs.Promises.{Sought}
 use Rattle.image.specs.declared.search.Placed.{Placed}
-use Rattle.image.proofs.Fields.{some_none}
+use Rattle.std.proofs.lemmas.Option.{none-some}
 
 pub record Lawful (es : List Entry) : Type 0 where
   pub keys : sound class es ≡ true
@@ -114,7 +114,7 @@ sought_not (Err end) es p n h o = found_not es p n h.1
 
 -- a name among the entries of a partition is a short form
 pub nth_key : (es : List Entry) (p k : ℕ) (e : Entry) → sound class es ≡ true → slice_get (inside es p) k ≡ Some e → is_key class e.partition e.name ≡ true
-nth_key [] p k e s i = absurd (some_none e (sym i))
+nth_key [] p k e s i = absurd (none-some e i)
 nth_key (d ∷ es) p k e s i = let h = sound_parts class d es s in by (eqb p d.partition) k i h.good (λ j. nth_key es p j e h.rest)
   where
     by : (b : Bool) (k : ℕ) → slice_get (cond b (d ∷ inside es p) (inside es p)) k ≡ Some e → is_key class d.partition d.name ≡ true → ((j : ℕ) → slice_get (inside es p) j ≡ Some e → is_key class e.partition e.name ≡ true) → is_key class e.partition e.name ≡ true

@@ -87,10 +87,6 @@ pub numbers_of : (ss : List Slot) (ms : List ℕ) → map (λ x. x.0) (map (numb
 numbers_of ss [] = refl
 numbers_of ss (m ∷ ms) = ap (λ (l : List ℕ). m ∷ l) (numbers_of ss ms)
 
-pub same_items : (xs : List ℕ) → map (λ x. x) xs ≡ xs
-same_items [] = refl
-same_items (x ∷ xs) = ap (λ (l : List ℕ). x ∷ l) (same_items xs)
-
 -- the first slot of a chain that passes a test, or that none does
 pub first_in : (T : ℕ × Item → Bool) (ss : List Slot) (c : ℕ → ℕ) (m b : ℕ) → MatchOption (find T (map (numbered ss) (members c m b))) ((j : ℕ) → j < m → c j ≡ b → T (numbered ss j) ≡ false) (λ x. (x.0 < m) × (c x.0 ≡ b) × (T (numbered ss x.0) ≡ true))
 first_in T ss c zero b = λ j h e. absurd (omega arith)

@@ -6,14 +6,14 @@ use Rattle.image.specs.Promises.{entry_in, RecordRead, FirstEntry}
 use Rattle.image.specs.Reading.{record_fault, read_entry}
 use Rattle.image.specs.declared.fault.RecordFault.{RecordFault}
 use Rattle.image.specs.declared.field.Record.{Record}
-use Rattle.image.proofs.Fields.{some_none}
+use Rattle.std.proofs.lemmas.Option.{none-some}
 use Rattle.image.proofs.Listing.{first_entry}
 use Rattle.image.proofs.records.split_record.Goals as goal
 use Rattle.image.proofs.records.split_record.Goals.{In_ok-record}
 
 read : (r : Result Record RecordFault) (x : Record) (bs : List ℕ) → Some x ≡ result_ok r → RecordRead class r 0 bs → (record_fault class 0 bs ≡ None) × (entry_in x ≡ read_entry bs)
 read (Ok y) x bs h g = let s : x ≡ y = cc in (g.0, ap entry_in s ∙ g.1)
-read (Err f) x bs h g = absurd (some_none x h)
+read (Err f) x bs h g = absurd (none-some x (sym h))
 
 first : (c : goal.In_ok-record) → FirstEntry class c.args.bytes.now (entry_in c.in_ok-record.record) (drop (19 + length c.in_ok-record.record.name.now) c.args.bytes.now)
 first c =

@@ -1,7 +1,5 @@
-use Rattle.std.proofs.Common.{◌≡◌, ℕ, List, [], ◌∷◌, map, Ok, sym, ap, ◌∙◌, lit<, Bor, rules}
+use Rattle.std.proofs.Common.{◌≡◌, ℕ, List, [], ◌∷◌, map, Ok, sym, ◌∙◌, Bor, rules}
 use mathlib.Core.List.{map-append}
-use Rattle.std.proofs.iter.runs.Made.{run_of_exit, seen}
-use Rattle.std.specs.List.{join_with_byte}
 use Rattle.wheels.specs.Readings.{partition_reading}
 use Rattle.wheels.proofs.Lists.{all_write_more, some_writes_more}
 use Rattle.wheels.proofs.request.partition_set.Goals as goal
