@@ -48,6 +48,7 @@ impl ShortName {
         ensures value { result.now ≡ self.now }
         ensures short { is_short class result.now ≡ true }
     {
+        // Kept: `as` is proved to lose nothing, and `usize::from` in an index says no more.
         &self.bytes[0..self.len as usize]
     }
 

@@ -55,6 +55,7 @@ impl Store for SlotTable<'_> {
         if self.used >= self.lent.slots.len() {
             return Err(PutError::Full);
         }
+        // Kept: `as` is proved to lose nothing, and `usize::from` in an index says no more.
         let rank = self.counts[partition as usize];
         let item = Item::holding(partition, name, number, rank);
         self.lent.add(self.used, item);

@@ -100,7 +100,7 @@ impl<R: Print, S: Store> Trial<'_, R, S> {
         println!(self.rt; "find {partition} \"{name}\": {answer:?}")
     }
 
-    // Kept: beside `find`, which differs in the call and in a word, since each is two lines.
+    // Kept: beside `find`, which differs in the call and in a word, since each is two lines; so are `put` and `relocate`.
     pub(crate) fn take(&mut self, partition: u16, name: &str) -> io::Result<()> {
         let answer = self.store.take(partition, name.as_bytes());
         println!(self.rt; "take {partition} \"{name}\": {answer:?}")
@@ -119,6 +119,7 @@ impl<R: Print, S: Store> Trial<'_, R, S> {
         let count = self.store.count(partition);
         let mut total = 0u64;
         let mut again = 0usize;
+        // Kept: each entry is looked up again in between, so that a chain would hold the whole loop.
         for k in 0..count {
             let mut name = [0xFF; 32];
             if let Some(entry) = self.store.entry(partition, k, &mut name) {
