@@ -1,5 +1,5 @@
 use Rattle.std.proofs.Common.{ℕ, ◌<◌, length, get_or, sym, ap, ◌∙◌, ⊎_elim, arith}
-use Rattle.std.proofs.lemmas.Option.{IfSome_then, slice_get_past}
+use Rattle.std.proofs.lemmas.Option.{IfSome_then}
 use Rattle.std.proofs.lemmas.Bool.{cases_lt}
 use Rattle.store.specs.Entries.{inside}
 use Rattle.slots.specs.declared.table.SlotTable.{SlotTable}
@@ -27,7 +27,3 @@ returns-then-k-count_in c =
       hit = IfSome_then c.at_rank.result c.at_rank.ensures.hit (λ j h. (h.used, nth_some t p k l j no_slot h.used h.partition h.rank f ∙ sym (nth_held t j no_slot h.used)));
       miss = misses _ c.at_rank.result c.at_rank.ensures.miss (λ h. absurd (rank_there t p k l f no_slot h));
     }
-
-pub returns-else-k-count_in : goal.returns-else-k-count_in
-returns-else-k-count_in c =
-    record { hit = tt; miss = slice_get_past (inside (entries_by_rank c.args.self.now) c.args.partition) c.args.k (omega (arith, c.count_in.ensures)) }
