@@ -65,6 +65,7 @@ impl SlotTable<'_> {
     }
 
     /// The record number of the entry in slot i.
+    // Kept: three calls ask that slot i is in use. A type for such numbers would be tied to one state of the table.
     pub(crate) fn number_at(&self, i: usize) -> u64
         requires { i < self.now.used }
         ensures { found_at self.now i ≡ Some result }

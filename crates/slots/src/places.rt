@@ -13,6 +13,7 @@ use crate::table::Lent;
 const SPREAD: u32 = 2_654_435_761;
 
 /// The chain of a key, among n.
+// Kept: three calls say that a chain's number is below n. A type for such numbers would be tied to one n.
 pub(crate) fn key_chain(partition: u16, name: &[u8], n: usize) -> usize
     requires { 0 < n }
     ensures is { result ≡ key_code n partition name.now }
