@@ -88,10 +88,9 @@ impl<R: Print, S: Store> Trial<'_, R, S> {
     }
 
     pub(crate) fn put(&mut self, partition: u16, name: &str, number: u64) -> io::Result<()> {
-        print!(self.rt; "put {partition} \"{name}\" {number}: ")?;
         match self.store.put(partition, name.as_bytes(), number) {
-            Ok(()) => println!(self.rt; "Added"),
-            Err(error) => println!(self.rt; "{error:?}"),
+            Ok(()) => println!(self.rt; "put {partition} \"{name}\" {number}: Added"),
+            Err(error) => println!(self.rt; "put {partition} \"{name}\" {number}: {error:?}"),
         }
     }
 
@@ -107,10 +106,9 @@ impl<R: Print, S: Store> Trial<'_, R, S> {
     }
 
     pub(crate) fn relocate(&mut self, from: u16, to: u16, name: &str) -> io::Result<()> {
-        print!(self.rt; "move {from} to {to} \"{name}\": ")?;
         match self.store.relocate(from, to, name.as_bytes()) {
-            Ok(()) => println!(self.rt; "Moved"),
-            Err(error) => println!(self.rt; "{error:?}"),
+            Ok(()) => println!(self.rt; "move {from} to {to} \"{name}\": Moved"),
+            Err(error) => println!(self.rt; "move {from} to {to} \"{name}\": {error:?}"),
         }
     }
 
