@@ -58,6 +58,10 @@ listed r n numbers amounts h l e f =
     let small = each_within 1 32 shifts ((i - 1) / 16 * 4 + (i - 1) % 4) refl (omega arith) in
     (omega arith, omega arith, number, omega (arith, number, inside.1), amount, omega (arith, amount, small.0), omega (arith, amount, small.1))
 
+-- the shift amount of that operation
+pub amount : (r n : ℕ) (amounts : List ℕ) → r < 4 → n < 16 → amounts ≡ take 4 (drop (4 * r) shifts) → get_or amounts (n % 4) 0 ≡ shift (16 * r + n + 1)
+amount r n amounts h l e = (listed r n _ amounts h l refl e).4
+
 -- what an operation makes of the words
 pub operation_is : (x : List ℕ) (i r : ℕ) (w : Buffer) {f y t s next : ℕ} → (i - 1) / 16 ≡ r → f ≡ auxiliary r w.1 w.2 w.3
     → y ≡ word x (word_number i) → t ≡ sine i → s ≡ shift i → next ≡ mixed w.0 w.1 f y t s

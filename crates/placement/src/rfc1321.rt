@@ -2,7 +2,7 @@
 ghost use Rattle.std.specs.Prelude.{◌≡◌, ℕ, ◌+◌, ◌*◌, ◌/◌, ◌%◌, ◌<◌, ◌≤◌, ◌++◌, List, length, take, drop, refl};
 ghost use Rattle.std.specs.List.{fold};
 ghost use Rattle.std.proofs.Common.{rules};
-ghost use Rattle.placement.specs.Rfc1321.{auxiliary, mixed, word, sines, word_numbers, shifts, Buffer, operation, operations, round, block, initial, blocks, padding, padded, output, digest};
+ghost use Rattle.placement.specs.Rfc1321.{auxiliary, mixed, word, sines, word_numbers, shifts, shift, Buffer, operation, operations, round, block, initial, blocks, padding, padded, output, digest};
 
 use std::marker::Model;
 
@@ -193,6 +193,15 @@ struct Operands<'a> {
     t: &'a Table,
 }
 
+// The shift amount of operation `n` of a round, counted from 0.
+#[tactic(auto, using(crate::proofs::Operations::amount))]
+fn shift_amount<R: Round>(n: usize) -> u32
+    requires { n < 16 }
+    ensures { result ≡ shift (16 * R.NUMBER + n + 1) }
+{
+    R::SHIFTS[n % 4]
+}
+
 impl Operands<'_> {
     // X[k].
     #[tactic(auto, using(crate::proofs::Operations::word_of))]
@@ -214,7 +223,7 @@ impl Operands<'_> {
         let f = R::auxiliary(b, c, d);
         let x = self.word(R::WORDS[n]);
         let t = self.t.values[16 * R::NUMBER + n];
-        let next = mix(a, b, f, x, t, R::SHIFTS[n % 4]);
+        let next = mix(a, b, f, x, t, shift_amount::<R>(n));
         Words {
             a: d,
             b: next,
