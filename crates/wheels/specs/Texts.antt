@@ -1,7 +1,16 @@
 -- Lines of text, and how bytes are printed.
-use Rattle.std.specs.Prelude.{ℕ, ◌-◌, ◌/◌, ◌%◌, Bool, true, cond, not, ◌&&◌, ◌||◌, List, [], ◌∷◌, length, take, ◌==◌, nat_eq, nat_le}
+use Rattle.std.specs.Prelude.{◌≡◌, ℕ, ◌+◌, ◌-◌, ◌/◌, ◌%◌, Bool, true, cond, not, ◌&&◌, ◌||◌, List, [], ◌∷◌, length, take, drop, ◌==◌, nat_eq, nat_le}
 use Rattle.std.specs.List.{ends_with}
 use Rattle.std.specs.Fmt.{digit_glyph}
+
+-- how many bytes stand before the first newline
+abbrev pub line_length : List ℕ → ℕ
+line_length [] = 0
+line_length (b ∷ bs) = cond (b == 10) 0 (line_length bs + 1)
+
+-- the first line of a text, without its end, and what follows the end
+abbrev pub FirstLine : List ℕ → List ℕ → List ℕ → Type 0
+FirstLine text line rest = (line ≡ take (line_length text) text) × (rest ≡ drop (line_length text + 1) text)
 
 -- a line without the newline at its end
 abbrev pub without_newline : List ℕ → List ℕ

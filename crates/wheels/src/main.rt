@@ -1,14 +1,13 @@
 // Places sensor names: the short form of each, its two placements, and where each placement belongs in a map. Says what a packed image holds.
 #![tactic(auto)]
 
-ghost use Rattle.std.specs.Prelude.{◌≡◌};
 ghost use Rattle.std.specs.Iterator.{IsFinite};
-ghost use Rattle.wheels.specs.Texts.{without_newline};
 
 mod command;
 mod fault;
 mod image_report;
 mod layout;
+mod lines;
 mod numbers;
 mod quoted;
 mod report;
@@ -18,6 +17,7 @@ use command::Command;
 use image_report::report_image;
 use index::Map;
 use layout::Layout;
+use lines::Lines;
 use quoted::Quoted;
 use report::report;
 use request::{Request, Source};
@@ -98,8 +98,7 @@ fn place(rt: &HostRuntime, layout: &Layout, source: Source) -> io::Result<()> {
         Source::Input => {
             let mut input = Vec::new(rt.alloc());
             rt.stdin().read_to_end(&mut input)?;
-            let lines = input.split_inclusive(|byte| *byte == b'\n');
-            place_all(rt, layout, lines.map(without_end))
+            place_all(rt, layout, Lines::of(&input))
         }
     }
 }
@@ -117,13 +116,6 @@ fn place_all<'a, I: Iterator<Item = &'a [u8]> + Drop>(
         report(rt, layout, raw)?;
     }
     Ok(())
-}
-
-/// A line without the newline at its end.
-fn without_end(line: &[u8]) -> &[u8]
-    ensures { result.now ≡ without_newline line.now }
-{
-    line.strip_suffix(b"\n").unwrap_or(line)
 }
 
 /// Says what the packed image in a file holds. The file is read whole and never written.

@@ -1,14 +1,13 @@
 use Rattle.std.proofs.Common.{◌≡◌, ℕ, ◌+◌, ◌<◌, Bool, true, List, [], ◌∷◌, ◌++◌, length, get_or, take, sym, refl, ap, ◌∙◌, arith}
 use Rattle.std.proofs.Output.{has_written_append, has_written_of_eq}
-use Rattle.std.proofs.lemmas.Bool.{cond-true, cond-false}
-use Rattle.std.proofs.lemmas.Fmt.{hex_byte}
+use Rattle.std.proofs.lemmas.Bool.{cond-true}
 use Rattle.std.specs.Fmt.{HasWritten}
 use Rattle.std.proofs.lemmas.List.{flat_map_more, take_more, take_all}
 use Rattle.std.proofs.lemmas.Str.Ascii.{encode_ascii}
 use Rattle.wheels.specs.Escapes.{escaped}
 use Rattle.wheels.specs.Texts.{byte_text}
 use Rattle.wheels.proofs.quoted.write_escaped.Goals as goal
-use Rattle.wheels.proofs.quoted.write_escaped.Goals.{then-stands+in_ok-write_char, else-stands+in_ok-write}
+use Rattle.wheels.proofs.quoted.write_escaped.Goals.{then-stands+in_ok-write_char, else-stands+in_ok-write_hex}
 
 -- one byte more
 escaped_more : (p : ℕ → Bool) (bs : List ℕ) (i : ℕ) (b : Bool) → i < length bs → b ≡ p (get_or bs i 0) → escaped p (take i bs) ++ byte_text b (get_or bs i 0) ≡ escaped p (take (i + 1) bs)
@@ -31,11 +30,10 @@ loop-byte-preserved g c p is plain =
           has_written_of_eq took c.args.f.now _ _ c.if-stands.f
           (ap (λ (t : List ℕ). escaped p (take i bytes) ++ t) (encode_ascii byte (c.requires.ascii byte (rw (sym w.if-stands.true) c.stands.ensures)) ∙ sym (cond-true c.stands.result _ _ w.if-stands.true)))
           (has_written_append took c.args.f.now _ c.loop-byte.f _ c.if-stands.f so_far (rw w.f-is (w.in_ok-write_char.ensures.writes so_far.plain refl)))
-      | else-stands+in_ok-write w ↦
-          let wrote = rw w.in_radix.ensures at (rw w.laid_out.ensures at w.in_ok-write.ensures.writes) in
+      | else-stands+in_ok-write_hex w ↦
           has_written_of_eq took c.args.f.now _ _ c.if-stands.f
-          (ap (λ (t : List ℕ). escaped p (take i bytes) ++ t) (ap (λ (t : List ℕ). 37 ∷ t) (hex_byte true byte (omega (arith, c.type_inv.bytes i))) ∙ sym (cond-false c.stands.result _ _ w.if-stands.false)))
-          (has_written_append took c.args.f.now _ c.loop-byte.f _ c.if-stands.f so_far (rw w.f-is (wrote so_far.plain refl)))
+          (ap (λ (t : List ℕ). escaped p (take i bytes) ++ t) (ap (λ b. byte_text b byte) (sym w.if-stands.false)))
+          (has_written_append took c.args.f.now _ c.loop-byte.f _ c.if-stands.f so_far (rw w.f-is (w.in_ok-write_hex.ensures so_far.plain refl)))
     ] in
     has_written_of_eq took c.args.f.now _ _ c.if-stands.f (escaped_more p bytes i c.stands.result c.loop-byte-test.true stands) done
 
