@@ -1,4 +1,4 @@
-ghost use Rattle.std.specs.Prelude.{◌≡◌, ◌≤◌, ◌-◌, ◌++◌, List, ℕ, true, length, take, drop, replicate};
+ghost use Rattle.std.specs.Prelude.{◌≡◌, ◌≤◌, ◌-◌, ◌++◌, true, length, take, drop, replicate};
 ghost use Rattle.std.proofs.Common.{sym, subst, ap, ◌∙◌, length-take-le, take-append-drop};
 ghost use Rattle.names.specs.Names.{class, is_short};
 ghost use Rattle.names.specs.Shortening.{ShortForm, padded, padded_short, same_short};
@@ -12,7 +12,7 @@ pub use shortening::{is_short, shorten};
 /// The most bytes that a name has.
 pub const MAX_LENGTH: usize = 32;
 
-/// A name's short form, which a contract sees as the list of its bytes. Names are the same where their short forms are equal.
+/// A name's short form, which a contract sees as a `ShortForm`: its bytes, and that they are one. Names are the same where their short forms are equal.
 #[derive(Clone, Copy, PartialEq, Eq, Debug)]
 pub struct ShortName {
     // Kept: an array and a length, since no library crate allocates and a name is a value to copy.

@@ -179,6 +179,15 @@ fn mix(a: u32, b: u32, f: u32, x: u32, t: u32, s: u32) -> u32
     b.wrapping_add(sum.rotate_left(s))
 }
 
+// The shift amount of operation `n` of a round, counted from 0.
+#[tactic(auto, using(crate::proofs::Operations::amount))]
+fn shift_amount<R: Round>(n: usize) -> u32
+    requires { n < 16 }
+    ensures { result ≡ shift (16 * R.NUMBER + n + 1) }
+{
+    R::SHIFTS[n % 4]
+}
+
 // The table T.
 #[derive(Drop)]
 struct Table {
@@ -191,15 +200,6 @@ struct Table {
 struct Operands<'a> {
     x: &'a [u8; 64],
     t: &'a Table,
-}
-
-// The shift amount of operation `n` of a round, counted from 0.
-#[tactic(auto, using(crate::proofs::Operations::amount))]
-fn shift_amount<R: Round>(n: usize) -> u32
-    requires { n < 16 }
-    ensures { result ≡ shift (16 * R.NUMBER + n + 1) }
-{
-    R::SHIFTS[n % 4]
 }
 
 impl Operands<'_> {

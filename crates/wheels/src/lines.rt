@@ -9,6 +9,7 @@ pub(crate) struct Lines<'a> {
 }
 
 impl<'a> Lines<'a> {
+    // Kept: beside the `of` of `image`'s `Records`, since each is a line and no crate below both knows the two types.
     pub(crate) fn of(text: &'a [u8]) -> Lines<'a>
         ensures { result.rest.now ≡ text.now }
     {
