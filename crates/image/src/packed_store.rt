@@ -12,7 +12,7 @@ use crate::field::Record;
 use crate::packed::PackedImage;
 use crate::search::{Placed, count_inside, nth_inside, records_end, seek};
 use crate::tag::Tag;
-use crate::write::{close_up, write_field, write_record};
+use crate::write::{close_up, wipe, write_field, write_record};
 use names::padded;
 use store::{LAST_PARTITION, ListedEntry, MoveError, PutError, Store, is_key};
 
@@ -138,6 +138,6 @@ impl Store for PackedImage<'_> {
         ensures within { ChangesWithin self.old self.new }
     {
         let end = self.end_from(0);
-        close_up(&mut self.image[..end], end);
+        wipe(&mut self.image[..end]);
     }
 }

@@ -16,6 +16,13 @@ pub(crate) fn close_up(part: &mut [u8], gap: usize)
     part[keep..].fill(0);
 }
 
+/// Makes the whole of `part` zero.
+pub(crate) fn wipe(part: &mut [u8])
+    ensures { part.new ≡ replicate (length part.old) 0 }
+{
+    part.fill(0);
+}
+
 /// Writes a field over the whole of `part`.
 pub(crate) fn write_field(part: &mut [u8], tag: Tag, content: &[u8])
     requires { (length part.old ≡ 3 + length content.now) × (length content.now < 65536) }
